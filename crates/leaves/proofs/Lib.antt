@@ -1,0 +1,10 @@
+pub mod Table
+pub mod ClassLaws
+pub mod TrimLaws
+pub mod ScrubLaws
+pub mod NumberLaws
+pub mod NameLaws
+pub mod SearchLaws
+pub mod EndLaws
+pub mod LineLaws
+pub mod PasteLaws

@@ -1,0 +1,103 @@
+-- Laws of names compared without case. Assumes nothing.
+use mathlib.Core.Path.{_≡_, refl, ap}
+use mathlib.Core.Bool.{true, false, false≢true}
+use mathlib.Core.List.{List, [], _∷_}
+use Prim.Native.Nat.{ℕ, suc, _+_, _-_, _≤_, _<_}
+use native.Mathlib.Omega.{arith}
+use native.Mathlib.Numerals.{add-one}
+use borrow.Author.Tests.{eq-eqb, ne-eqb, eqb-true}
+use lib.Dec.{eqb}
+use lib.ListN.{length, getD, take, drop, replicate, drop-of-length-le}
+use lib.Seq.{drop-cons, take-at}
+use Rattle.leaves.specs.Choice.{and-left, and-right, and-false}
+use Rattle.leaves.specs.Name.{lowered, sameName, nameOf, framed}
+use Rattle.leaves.specs.declared.names.WarcHeader.{WarcHeader}
+use Rattle.leaves.specs.declared.names.WarcHeader.the-variants.{WarcType, WarcRecordId, WarcDate, ContentLength, ContentType, WarcConcurrentTo, WarcBlockDigest, WarcPayloadDigest, WarcIpAddress, WarcRefersTo, WarcRefersToTargetUri, WarcRefersToDate, WarcTargetUri, WarcTruncated, WarcWarcinfoId, WarcFilename, WarcProfile, WarcIdentifiedPayloadType, WarcSegmentOriginId, WarcSegmentNumber, WarcSegmentTotalLength}
+use Rattle.leaves.specs.Octets.{sameList}
+
+-- what `sameList` tells
+pub same-list-refl : (a : List ℕ) → sameList a a ≡ true
+unfolding sameList
+same-list-refl [] = refl
+same-list-refl (x ∷ xs) = rw (eq-eqb x x refl) (same-list-refl xs)
+
+pub same-list-eq : (a b : List ℕ) → sameList a b ≡ true → a ≡ b
+unfolding sameList
+same-list-eq [] [] e = refl
+same-list-eq [] (y ∷ ys) e = absurd (false≢true e)
+same-list-eq (x ∷ xs) [] e = absurd (false≢true e)
+same-list-eq (x ∷ xs) (y ∷ ys) e =
+    let p : x ≡ y = eqb-true x y (and-left (eqb x y) (sameList xs ys) e) in
+    let q : xs ≡ ys = same-list-eq xs ys (and-right (eqb x y) (sameList xs ys) e) in
+    rw (p, q)
+
+pub same-apart : (a b : List ℕ) → (length a ≡ length b → ⊥) → sameName a b ≡ false
+unfolding sameList
+same-apart [] [] h = absurd (h refl)
+same-apart [] (y ∷ ys) h = refl
+same-apart (x ∷ xs) [] h = refl
+same-apart (x ∷ xs) (y ∷ ys) h = and-false (eqb (lowered x) (lowered y)) _ (same-apart xs ys (λ e. h (ap suc e)))
+
+module _ (a b : List ℕ) (i : ℕ) where
+  pub same-more : i < length a → i < length b → lowered (getD a i 0) ≡ lowered (getD b i 0)
+      → sameName (drop i a) (drop i b) ≡ sameName (drop (i + 1) a) (drop (i + 1) b)
+  unfolding sameList
+  same-more h k e = rw (add-one, drop-cons a i 0, drop-cons b i 0, eq-eqb _ _ e)
+
+  pub same-stop : i < length a → i < length b → (lowered (getD a i 0) ≡ lowered (getD b i 0) → ⊥) → sameName (drop i a) (drop i b) ≡ false
+  unfolding sameList
+  same-stop h k e = rw (drop-cons a i 0, drop-cons b i 0, ne-eqb _ _ e)
+
+  pub same-end : length a ≤ i → length b ≤ i → sameName (drop i a) (drop i b) ≡ true
+  unfolding sameList
+  same-end h k = rw (drop-of-length-le a h, drop-of-length-le b k)
+
+-- a name against a list that is read from its front
+module _ (a : List ℕ) (n y : ℕ) (ys : List ℕ) where
+  pub name-short : length a ≤ n → sameName (drop n a) (y ∷ ys) ≡ false
+  unfolding sameList
+  name-short h = rw (drop-of-length-le a h)
+
+  pub name-more : n < length a → lowered (getD a n 0) ≡ lowered y → sameName (drop n a) (y ∷ ys) ≡ sameName (drop (n + 1) a) ys
+  unfolding sameList
+  name-more h e = rw (add-one, drop-cons a n 0, eq-eqb _ _ e)
+
+  pub name-stop : n < length a → (lowered (getD a n 0) ≡ lowered y → ⊥) → sameName (drop n a) (y ∷ ys) ≡ false
+  unfolding sameList
+  name-stop h e = rw (drop-cons a n 0, ne-eqb _ _ e)
+
+pub name-left : (a : List ℕ) (n : ℕ) → n < length a → sameName (drop n a) [] ≡ false
+unfolding sameList
+name-left a n h = rw (drop-cons a n 0)
+
+pub name-end : (a : List ℕ) (n : ℕ) → length a ≤ n → sameName (drop n a) [] ≡ true
+unfolding sameList
+name-end a n h = rw (drop-of-length-le a h)
+
+-- each name fits the frame
+pub name-fits : (h : WarcHeader) → length (nameOf h) ≤ 28
+name-fits WarcType = omega arith
+name-fits WarcRecordId = omega arith
+name-fits WarcDate = omega arith
+name-fits ContentLength = omega arith
+name-fits ContentType = omega arith
+name-fits WarcConcurrentTo = omega arith
+name-fits WarcBlockDigest = omega arith
+name-fits WarcPayloadDigest = omega arith
+name-fits WarcIpAddress = omega arith
+name-fits WarcRefersTo = omega arith
+name-fits WarcRefersToTargetUri = omega arith
+name-fits WarcRefersToDate = omega arith
+name-fits WarcTargetUri = omega arith
+name-fits WarcTruncated = omega arith
+name-fits WarcWarcinfoId = omega arith
+name-fits WarcFilename = omega arith
+name-fits WarcProfile = omega arith
+name-fits WarcIdentifiedPayloadType = omega arith
+name-fits WarcSegmentOriginId = omega arith
+name-fits WarcSegmentNumber = omega arith
+name-fits WarcSegmentTotalLength = omega arith
+
+-- a framed text is its own front
+pub framed-front : (s : List ℕ) → take (framed s .length) (framed s .octets) ≡ s
+framed-front s = take-at s (drop (length s) (replicate 28 0)) (length s) refl

@@ -1,0 +1,11 @@
+pub mod Choice
+pub mod Octets
+pub mod Paste
+pub mod Class
+pub mod Trim
+pub mod Sanitise
+pub mod Number
+pub mod Name
+pub mod Types
+pub mod Line
+pub mod Refusals
