@@ -1,4 +1,5 @@
 -- `leaves::names::is_named` meets its contract. Assumes nothing.
+use Prim.Native.Nat.{ℕ, _≤_}
 use borrow.Author.Needs.{needs}
 use lib.ListN.{replicate, length-append, length-drop}
 use lib.Seq.{length-take-le}
@@ -10,7 +11,6 @@ use Rattle.leaves.proofs.names.is_named.Statement.{statement}
 use Rattle.leaves.proofs.names.is_named.Tie as tie
 use native.Mathlib.Omega.{arith}
 use mathlib.Core.Path.{_≡_, sym, ap, _∙_}
-use Prim.Native.Nat.{_-_, _≤_}
 use lib.ListN.{length, take, drop}
 
 fits : (h : WarcHeader) {n : Name} → n ≡ framed (nameOf h) → n .length ≤ length (n .octets)
