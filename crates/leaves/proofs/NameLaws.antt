@@ -3,16 +3,13 @@ use mathlib.Core.Path.{_≡_, refl, ap}
 use mathlib.Core.Bool.{true, false, false≢true}
 use mathlib.Core.List.{List, [], _∷_}
 use Prim.Native.Nat.{ℕ, suc, _+_, _-_, _≤_, _<_}
-use native.Mathlib.Omega.{arith}
 use native.Mathlib.Numerals.{add-one}
 use borrow.Author.Tests.{eq-eqb, ne-eqb, eqb-true}
 use lib.Dec.{eqb}
-use lib.ListN.{length, getD, take, drop, replicate, drop-of-length-le}
-use lib.Seq.{drop-cons, take-at}
+use lib.ListN.{length, getD, drop, drop-of-length-le}
+use lib.Seq.{drop-cons}
 use Rattle.leaves.specs.Choice.{and-left, and-right, and-false}
-use Rattle.leaves.specs.Name.{lowered, sameName, nameOf, framed}
-use Rattle.leaves.specs.declared.names.WarcHeader.{WarcHeader}
-use Rattle.leaves.specs.declared.names.WarcHeader.the-variants.{WarcType, WarcRecordId, WarcDate, ContentLength, ContentType, WarcConcurrentTo, WarcBlockDigest, WarcPayloadDigest, WarcIpAddress, WarcRefersTo, WarcRefersToTargetUri, WarcRefersToDate, WarcTargetUri, WarcTruncated, WarcWarcinfoId, WarcFilename, WarcProfile, WarcIdentifiedPayloadType, WarcSegmentOriginId, WarcSegmentNumber, WarcSegmentTotalLength}
+use Rattle.leaves.specs.Name.{lowered, sameName}
 use Rattle.leaves.specs.Octets.{sameList}
 
 -- what `sameList` tells
@@ -73,31 +70,3 @@ name-left a n h = rw (drop-cons a n 0)
 pub name-end : (a : List ℕ) (n : ℕ) → length a ≤ n → sameName (drop n a) [] ≡ true
 unfolding sameList
 name-end a n h = rw (drop-of-length-le a h)
-
--- each name fits the frame
-pub name-fits : (h : WarcHeader) → length (nameOf h) ≤ 28
-name-fits WarcType = omega arith
-name-fits WarcRecordId = omega arith
-name-fits WarcDate = omega arith
-name-fits ContentLength = omega arith
-name-fits ContentType = omega arith
-name-fits WarcConcurrentTo = omega arith
-name-fits WarcBlockDigest = omega arith
-name-fits WarcPayloadDigest = omega arith
-name-fits WarcIpAddress = omega arith
-name-fits WarcRefersTo = omega arith
-name-fits WarcRefersToTargetUri = omega arith
-name-fits WarcRefersToDate = omega arith
-name-fits WarcTargetUri = omega arith
-name-fits WarcTruncated = omega arith
-name-fits WarcWarcinfoId = omega arith
-name-fits WarcFilename = omega arith
-name-fits WarcProfile = omega arith
-name-fits WarcIdentifiedPayloadType = omega arith
-name-fits WarcSegmentOriginId = omega arith
-name-fits WarcSegmentNumber = omega arith
-name-fits WarcSegmentTotalLength = omega arith
-
--- a framed text is its own front
-pub framed-front : (s : List ℕ) → take (framed s .length) (framed s .octets) ≡ s
-framed-front s = take-at s (drop (length s) (replicate 28 0)) (length s) refl

@@ -6,6 +6,5 @@ pub mod Trim
 pub mod Sanitise
 pub mod Number
 pub mod Name
-pub mod Types
 pub mod Line
 pub mod Refusals

@@ -6,4 +6,3 @@ pub mod names;
 pub mod refusals;
 pub mod sanitise;
 pub mod trims;
-pub mod types;

@@ -1,0 +1,52 @@
+-- `lookups::status` meets its contract. Assumes nothing.
+use Rattle.lookups.specs.Lookups.{statusIn}
+use Rattle.lookups.proofs.HandLaws.{hands-part, hands-nothing, status-within}
+use borrow.Author.Needs.{needs}
+use Rattle.lookups.proofs.status.Statement.{statement}
+use Rattle.lookups.proofs.status.Tie as tie
+use native.Mathlib.Omega.{arith}
+use mathlib.Core.Path.{refl, sym, ap, _∙_}
+use Prim.Native.Nat.{_-_}
+
+shown-status-requires : tie.Need-shown-status-requires
+shown-status-requires c κs = search needs
+
+enum-told : tie.Need-enum-told
+enum-told c = search needs
+
+sub-result : tie.Need-sub-result
+sub-result c = search needs
+
+part-result-start : tie.Need-part-result-start
+part-result-start c = search needs
+
+part-result-end : tie.Need-part-result-end
+part-result-end c = search needs
+
+enum-known-s : tie.Need-enum-known-s
+enum-known-s c = search needs
+
+part-requires : tie.Need-part-requires
+part-requires c κs = search needs
+
+returns : tie.Need-returns
+returns c = hands-nothing _ _ _ _ _ _ (ap statusIn (sym (c .before .before .before .shown-status .ensures) ∙ c .before .enum-told .given .1)) refl (refl, omega arith)
+
+returns-2 : tie.Need-returns-2
+returns-2 c =
+    let e = sym (c .before .before .before .before .shown-status .ensures) ∙ c .before .before .s .given .1 in
+    hands-part _ _ _ _ _ _ (ap statusIn e) (status-within _ _ _ _ e) (c .part .ensures)
+
+pub status-spec : {M : Type 1} → statement M
+status-spec =
+    tie.close
+    (tie.spec
+    shown-status-requires
+    enum-told
+    sub-result
+    part-result-start
+    part-result-end
+    enum-known-s
+    part-requires
+    returns
+    returns-2)

@@ -1,0 +1,30 @@
+-- What a map says: its status and its fields, as octets. Assumes nothing.
+use mathlib.Core.List.{List, map}
+use mathlib.Core.Option.{Option, none, some}
+use Prim.Native.Nat.{ℕ}
+use Rattle.maps.specs.Places.{at}
+use Rattle.maps.specs.Good.{live}
+use Rattle.maps.specs.declared.Field.{Field}
+use Rattle.maps.specs.declared.Status.{Status}
+use Rattle.maps.specs.declared.Status.the-variants.{Absent, At}
+use Rattle.maps.specs.declared.HeaderMap.{HeaderMap}
+
+-- a field as octets
+pub record Pair : Type 0 where
+  pub key : List ℕ
+  pub value : List ℕ
+
+-- a map as octets; "absent and empty status differing"
+pub record Said : Type 0 where
+  pub status : Option (List ℕ)
+  pub pairs : List Pair
+
+abbrev pub pairAt : List ℕ → List ℕ → Field → Pair
+pairAt b s x = record { key = at b s (x .key); value = at b s (x .value) }
+
+abbrev pub statusAt : List ℕ → List ℕ → Status → Option (List ℕ)
+statusAt b s Absent = none
+statusAt b s (At p) = some (at b s p)
+
+unfoldable pub saying : HeaderMap → List ℕ → List ℕ → Said
+saying m b s = record { status = statusAt b s (m .status); pairs = map (pairAt b s) (live m) }

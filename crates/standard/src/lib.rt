@@ -1,0 +1,3 @@
+// What the standard, WARC 1.1, names: fields and record types.
+pub mod names;
+pub mod types;
