@@ -1,0 +1,5 @@
+pub mod FitLaws
+pub mod OctetSteps
+pub mod LineSteps
+pub mod FeedLaws
+pub mod FinishLaws
