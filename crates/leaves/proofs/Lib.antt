@@ -5,6 +5,7 @@ pub mod ScrubLaws
 pub mod NumberLaws
 pub mod NameLaws
 pub mod SearchLaws
+pub mod ScanLaws
 pub mod EndLaws
 pub mod LineLaws
 pub mod PasteLaws

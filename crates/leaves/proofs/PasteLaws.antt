@@ -1,12 +1,15 @@
 -- Laws of a part `&s[a..e]`, of text written over one, and of the loop that copies. Assumes nothing.
 use mathlib.Core.Path.{_≡_, refl, sym, ap, _∙_}
-use mathlib.Core.List.{List, _++_, append-assoc}
-use Prim.Native.Nat.{ℕ, _+_, _-_, _≤_, _<_}
+use mathlib.Core.List.{List, _++_, append-assoc, append-nil}
+use mathlib.Core.Bool.{Bool, true, false}
+use Prim.Native.Nat.{ℕ, max, _+_, _-_, _≤_, _<_}
 use native.Mathlib.Nat.{zero-add}
 use native.Mathlib.Omega.{arith}
 use native.Mathlib.Numerals.{add-one}
-use lib.ListN.{length, getD, set, take, drop, length-append, length-drop, length-take, take-append-drop}
-use lib.Seq.{paste, paste-zero, paste-suc, length-paste, take-length, drop-drop, take-all, drop-append-le, drop-append-add, take-at, length-take-le}
+use borrow.Author.Tests.{leb-true, leb-false}
+use lib.Dec.{leb}
+use lib.ListN.{length, getD, set, take, drop, length-append, length-drop, length-take, take-append-drop, drop-of-length-le}
+use lib.Seq.{paste, paste-zero, paste-suc, length-paste, take-paste, drop-paste, take-length, take-take, take-add, drop-drop, take-all, drop-append-le, drop-append-add, take-at, length-take-le, getD-take, getD-drop}
 use Rattle.leaves.specs.Paste.{pasted, lay}
 
 -- the part to the end is what is left
@@ -27,6 +30,14 @@ module _ (xs : List ℕ) (a e : ℕ) (order : a ≤ e) (within : e ≤ length xs
       ∙ ap (drop (length t)) (take-append-drop (e - a) (drop a xs))
       ∙ drop-drop (length t) a xs in
       rw (q, zero-add, append-assoc, joined)
+
+-- n octets of a list from a place on
+module _ (s : List ℕ) (at n : ℕ) (fits : at + n ≤ length s) where
+  pub group-length : length (take n (drop at s)) ≡ n
+  group-length = length-take-le n (drop at s) (omega (arith, length-drop at s))
+
+  pub group-at : (j : ℕ) → j < n → getD (take n (drop at s)) j 0 ≡ getD s (at + j) 0
+  group-at j h = rw (getD-take, getD-drop)
 
 -- to write t behind s is to write both
 pub pasted-more : (d s t : List ℕ) (a : ℕ) → a + length s ≤ length d → pasted (pasted d a s) (a + length s) t ≡ pasted d a (s ++ t)
@@ -63,6 +74,49 @@ copy-step {d₀} {at} {s} {d} {i} c h j x f e =
 
 pub copy-end : {d₀ : List ℕ} {at : ℕ} {s d : List ℕ} {i : ℕ} → Copying d₀ at s d i → length s ≤ i → d ≡ pasted d₀ at s
 copy-end {d₀} {at} {s} {d} {i} c h = c .is ∙ paste-all d₀ at s i (omega (arith, c .read))
+
+-- a part of the text that begins where it was copied already, or before: groups may overlap
+module _ {d₀ s d : List ℕ} {i : ℕ} (c : Copying d₀ 0 s d i) (at n : ℕ) (d′ : List ℕ) (low : at ≤ i) (fits : at + n ≤ length s) (e : d′ ≡ pasted d at (take n (drop at s))) where
+  head : take i d ≡ take i s
+  head = rw zero-add at (ap (take (0 + i)) (c .is) ∙ take-paste d₀ 0 s i (omega arith) (c .read))
+
+  front : take at d ≡ take at s
+  front = sym (take-take at i d low) ∙ ap (take at) head ∙ take-take at i s low
+
+  pub copy-group : i ≤ at + n → Copying d₀ 0 s d′ (at + n)
+  unfolding pasted
+  copy-group high =
+      let tail : drop i d ≡ drop i d₀ = rw zero-add at (ap (drop (0 + i)) (c .is) ∙ drop-paste d₀ 0 s i (omega arith) (c .read)) in
+      let k : i + (at + n - i) ≡ at + n = omega arith in
+      let back : drop (at + n) d ≡ drop (at + n) d₀ =
+      ap (λ (m : ℕ). drop m d) (sym k) ∙ sym (drop-drop (at + n - i) i d) ∙ ap (drop (at + n - i)) tail ∙ drop-drop (at + n - i) i d₀ ∙ ap (λ (m : ℕ). drop m d₀) k in
+      let l = group-length s at n fits in
+      let q : d′ ≡ paste d₀ 0 s (at + n) = e ∙ rw (l, front, back, ← append-assoc, ← take-add, zero-add) in
+      record { read = fits; fits = c .fits; long = ap length q ∙ length-paste d₀ 0 s (at + n) (omega (arith, c .fits)) fits; is = q }
+
+  copy-again : at + n ≤ i → d′ ≡ d
+  unfolding pasted
+  copy-again high =
+      let same : take (at + n) s ≡ take (at + n) d = sym (take-take (at + n) i s high) ∙ ap (take (at + n)) (sym head) ∙ take-take (at + n) i d high in
+      let l = group-length s at n fits in
+      e ∙ rw (l, front, ← append-assoc, ← take-add, same) (take-append-drop (at + n) d)
+
+  pub copy-over : Copying d₀ 0 s d′ (max i (at + n))
+  copy-over = choose (leb i (at + n)) refl
+    where
+      choose : (t : Bool) → leb i (at + n) ≡ t → Copying d₀ 0 s d′ (max i (at + n))
+      choose true h =
+          let m : max i (at + n) ≡ at + n = omega (arith, leb-true i (at + n) h) in
+          rw m (copy-group (leb-true i (at + n) h))
+      choose false h =
+          let k : at + n ≤ i = omega (arith, leb-false i (at + n) h) in
+          let m : max i (at + n) ≡ i = omega arith in
+          rw (m, copy-again k) c
+
+-- a text as long as the list takes its place
+pub pasted-over : (d s : List ℕ) → length d ≤ length s → pasted d 0 s ≡ s
+unfolding pasted
+pasted-over d s h = rw (zero-add, drop-of-length-le d h, append-nil)
 
 -- to write at the start is to lay over it
 pub pasted-front : (d s : List ℕ) → pasted d 0 s ≡ lay d s

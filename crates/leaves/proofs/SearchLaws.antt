@@ -1,17 +1,17 @@
 -- Laws of looking for an octet, and of a test of every octet, from the front. Assumes nothing.
 use mathlib.Core.Path.{_≡_, refl, sym, ap, _∙_}
-use mathlib.Core.Bool.{Bool, true, false, cond, _||_}
+use mathlib.Core.Bool.{Bool, true, false, cond, _||_, false≢true}
 use mathlib.Core.List.{List, [], _∷_, _++_}
-use Prim.Native.Nat.{ℕ, zero, suc, _+_, _-_, _≤_, _<_}
-use native.Mathlib.Nat.{zero-add}
+use Prim.Native.Nat.{ℕ, zero, suc, min, _+_, _-_, _≤_, _<_}
+use native.Mathlib.Nat.{zero-add, add-assoc}
 use native.Mathlib.Omega.{arith}
 use native.Mathlib.Numerals.{add-one}
 use borrow.Author.Tests.{eqb-true, eq-eqb}
 use lib.Dec.{eqb}
 use lib.ListN.{length, getD, take, drop, length-drop, drop-of-length-le}
-use lib.Seq.{drop-cons, drop-drop, getD-drop, take-suc}
+use lib.Seq.{drop-cons, drop-drop, drop-at, getD-drop, take-suc, take-add, length-take-le}
 use Rattle.leaves.specs.Choice.{or-assoc, or-false, or-left, or-right}
-use Rattle.leaves.specs.Octets.{has, before, all}
+use Rattle.leaves.specs.Octets.{has, before, all, Passed}
 
 module _ (c : ℕ) where
   has-snoc : (l : List ℕ) (x : ℕ) → has c (l ++ (x ∷ [])) ≡ (has c l || eqb x c)
@@ -29,18 +29,44 @@ module _ (c : ℕ) where
       ap (λ (n : ℕ). has c (take n (drop at s))) (add-one j) ∙ ap (has c) (take-suc (drop at s) j 0 k) ∙ has-snoc (take j (drop at s)) (getD (drop at s) j 0) ∙
       ap (λ (x : ℕ). has c (take j (drop at s)) || eqb x c) (getD-drop at s j 0)
 
-  -- octets without c are passed over
-  pass : (k : ℕ) (l : List ℕ) → has c (take k l) ≡ false → k ≤ length l → before c l ≡ k + before c (drop k l)
-  unfolding has before
-  pass zero l e h = sym (zero-add _)
-  pass (suc k) [] e h = absurd (omega arith)
-  pass (suc k) (x ∷ xs) e h =
-      rw (or-left (eqb x c) (has c (take k xs)) e) (omega (arith, pass k xs (or-right (eqb x c) (has c (take k xs)) e) (omega arith)))
+  -- a search of the first n octets
+  pub before-take : (n : ℕ) (l : List ℕ) → before c (take n l) ≡ min n (before c l)
+  unfolding before
+  before-take zero l = omega arith
+  before-take (suc n) [] = omega arith
+  before-take (suc n) (x ∷ xs) = choose (eqb x c) (before-take n xs)
+    where
+      choose : (b : Bool) → before c (take n xs) ≡ min n (before c xs) → cond b 0 (suc (before c (take n xs))) ≡ min (suc n) (cond b 0 (suc (before c xs)))
+      choose true ih = omega arith
+      choose false ih = omega arith
 
-  pub before-pass : (s : List ℕ) (i : ℕ) → i + 16 ≤ length s → has c (take 16 (drop i s)) ≡ false → before c (drop i s) ≡ 16 + before c (drop (i + 16) s)
-  before-pass s i h e =
-      let k : 16 ≤ length (drop i s) = omega (arith, length-drop i s) in
-      pass 16 (drop i s) e k ∙ ap (λ (l : List ℕ). 16 + before c l) (drop-drop 16 i s)
+  -- octets before the first c are passed over
+  pub before-after : (k : ℕ) (l : List ℕ) → k ≤ before c l → before c l ≡ k + before c (drop k l)
+  unfolding before
+  before-after zero l h = sym (zero-add _)
+  before-after (suc k) [] h = absurd (omega arith)
+  before-after (suc k) (x ∷ xs) h = choose (eqb x c) (λ (j : k ≤ before c xs). before-after k xs j) h
+    where
+      choose : (b : Bool) → (k ≤ before c xs → before c xs ≡ k + before c (drop k xs)) → suc k ≤ cond b 0 (suc (before c xs)) → cond b 0 (suc (before c xs)) ≡ suc k + before c (drop k xs)
+      choose true ih h = absurd (omega arith)
+      choose false ih h = omega (arith, ih (omega arith))
+
+  pub has-far : (n : ℕ) (l : List ℕ) → has c (take n l) ≡ false → n ≤ length l → n ≤ before c l
+  unfolding has before
+  has-far zero l e h = omega arith
+  has-far (suc n) [] e h = absurd (omega arith)
+  has-far (suc n) (x ∷ xs) e h =
+      rw (or-left (eqb x c) (has c (take n xs)) e) (omega (arith, has-far n xs (or-right (eqb x c) (has c (take n xs)) e) (omega arith)))
+
+  pub has-near : (n : ℕ) (l : List ℕ) → has c (take n l) ≡ true → before c l < n
+  unfolding has before
+  has-near zero l e = absurd (false≢true e)
+  has-near (suc n) [] e = absurd (false≢true e)
+  has-near (suc n) (x ∷ xs) e = choose (eqb x c) (λ (t : has c (take n xs) ≡ true). has-near n xs t) e
+    where
+      choose : (b : Bool) → (has c (take n xs) ≡ true → before c xs < n) → (b || has c (take n xs)) ≡ true → cond b 0 (suc (before c xs)) < suc n
+      choose true ih e = omega arith
+      choose false ih e = omega (arith, ih e)
 
   pub before-here : (s : List ℕ) (i : ℕ) → i < length s → getD s i 0 ≡ c → before c (drop i s) ≡ 0
   unfolding before
@@ -72,6 +98,25 @@ module _ (c : ℕ) where
       choose : (b : Bool) → eqb x c ≡ b → (before c xs < length xs → getD xs (before c xs) 0 ≡ c) → cond b 0 (suc (before c xs)) < suc (length xs) → getD (x ∷ xs) (cond b 0 (suc (before c xs))) 0 ≡ c
       choose true e ih h = eqb-true x c e
       choose false e ih h = ih (omega arith)
+
+-- a part of the first octets
+pub drop-cut : (s : List ℕ) (at n : ℕ) → at ≤ length s → drop at (take (at + n) s) ≡ take n (drop at s)
+drop-cut s at n h = rw take-add (drop-at (take at s) (take n (drop at s)) at (length-take-le at s h))
+
+pub pass-start : (c : ℕ) (s : List ℕ) (from : ℕ) → from ≤ length s → Passed c s from from
+pass-start c s from h = record { order = omega arith; within = h; is = refl }
+
+module _ {c : ℕ} {s : List ℕ} {from i : ℕ} (p : Passed c s from i) where
+  pub pass-more : (k : ℕ) → i + k ≤ length s → k ≤ before c (drop i s) → Passed c s from (i + k)
+  pass-more k h far =
+      record {
+        order = omega (arith, p .order);
+        within = h;
+        is = p .is ∙ ap (λ (n : ℕ). i + n) (before-after c k (drop i s) far) ∙ rw drop-drop (sym (add-assoc i k _));
+      }
+
+  pub pass-end : (k : ℕ) → before c (drop i s) ≡ k → i + k ≡ from + before c (drop from s)
+  pass-end k e = omega (arith, p .is)
 
 module _ (p : ℕ → Bool) (s : List ℕ) (i : ℕ) where
   pub all-more : i < length s → p (getD s i 0) ≡ true → all p (drop i s) ≡ all p (drop (i + 1) s)

@@ -3,7 +3,7 @@ use mathlib.Core.Path.{_≡_}
 use mathlib.Core.Bool.{Bool, cond, _&&_, _||_}
 use mathlib.Core.List.{List, [], _∷_}
 use Prim.Native.Nat.{ℕ, zero, suc, _+_, _-_, _≤_}
-use lib.Dec.{eqb, ltb}
+use lib.Dec.{eqb, ltb, leb}
 use lib.ListN.{length, getD, take}
 use Rattle.leaves.specs.Paste.{pasted}
 use Rattle.leaves.specs.declared.lines.Took.{Took}
@@ -50,3 +50,9 @@ crAt cr s (suc n) = eqb (getD s n 0) 13
 unfoldable pub lineEnd : Bool → Bool → List ℕ → ℕ
 lineEnd quirks cr [] = 0
 lineEnd quirks cr (x ∷ xs) = cond (endsLine quirks cr x) 0 (suc (lineEnd quirks (eqb x 13) xs))
+
+-- whether a line is c octets that begin and end above space, the octet at c, one space, octets that begin and end above space, CR and LF
+unfoldable pub tight : ℕ → List ℕ → Bool
+tight c l =
+    leb 1 c && leb (c + 5) (length l) && eqb (getD l (length l - 1) 0) 10 && eqb (getD l (length l - 2) 0) 13 && ltb 32 (getD l (length l - 3) 0)
+    && eqb (getD l (c + 1) 0) 32 && ltb 32 (getD l (c + 2) 0) && ltb 32 (getD l (c - 1) 0) && ltb 32 (getD l 0 0)

@@ -1,24 +1,23 @@
 use borrow.Author.Needs.{needs}
 use native.Mathlib.Omega.{arith}
 use native.Mathlib.Nat.{add-zero}
-use native.Mathlib.Numerals.{add-one}
-use mathlib.Core.Path.{_≡_, refl, sym, ap, _∙_}
-use Prim.Native.Nat.{ℕ, _+_, _-_, _≤_}
-use lib.ListN.{length, drop}
+use mathlib.Core.Path.{sym, ap, _∙_}
+use Prim.Native.Nat.{ℕ, _+_, _-_}
+use lib.ListN.{length}
 use borrow.Author.Tests.{ne-eqb}
-use Rattle.leaves.specs.Octets.{before}
-use Rattle.leaves.proofs.SearchLaws.{before-here, before-not, before-end}
+use Rattle.leaves.specs.Octets.{before, Passed}
+use Rattle.leaves.proofs.SearchLaws.{before-here, before-not, before-end, pass-start, pass-more}
 use Rattle.leaves.proofs.lines.next_octet.Statement.{statement}
 use Rattle.leaves.proofs.lines.next_octet.Tie as tie
 
 abbrev Inv-loop : tie.InvT-loop
-Inv-loop s from wanted i₀ i = (from ≤ i) × (i ≤ length s) × (from + before wanted (drop from s) ≡ i + before wanted (drop i s))
+Inv-loop s from wanted i₀ i = Passed wanted s from i
 
 abbrev μ-loop : tie.MeasureT-loop
 μ-loop s from wanted i₀ i = length s - i
 
 loop-holds : tie.Need-loop-holds Inv-loop μ-loop
-loop-holds c = (search needs, search needs, refl)
+loop-holds c = pass-start _ _ _ (omega arith)
 
 shared-slice-read-if1 : tie.Need-shared-slice-read-if1 Inv-loop μ-loop
 shared-slice-read-if1 c = search needs
@@ -27,7 +26,7 @@ returns : tie.Need-returns Inv-loop μ-loop
 returns c =
     let l = c .before .before .before in
     let s = l .before .args .s .now in
-    sym (l .loop .inv .2 ∙ ap (λ (n : ℕ). l .loop .i + n) (before-here (l .before .args .wanted) s (l .loop .i) (omega arith) (c .if1 .taken)) ∙ add-zero _)
+    sym (l .loop .inv .is ∙ ap (λ (n : ℕ). l .loop .i + n) (before-here (l .before .args .wanted) s (l .loop .i) (omega arith) (c .if1 .taken)) ∙ add-zero _)
 
 add-i : tie.Need-add-i Inv-loop μ-loop
 add-i c = search needs
@@ -39,13 +38,13 @@ loop-again : tie.Need-loop-again Inv-loop μ-loop
 loop-again c =
     let l = c .before .before .before in
     let s = l .before .args .s .now in
-    (omega arith, omega arith, rw add-one (omega (arith, l .loop .inv .2, before-not (l .before .args .wanted) s (l .loop .i) (omega arith) (ne-eqb _ _ (c .if1 .left)))))
+    pass-more (l .loop .inv) 1 (omega arith) (omega (arith, before-not (l .before .args .wanted) s (l .loop .i) (omega arith) (ne-eqb _ _ (c .if1 .left))))
 
 returns-2 : tie.Need-returns-2 Inv-loop μ-loop
 returns-2 c =
     let l = c .before in
     let s = l .before .args .s .now in
-    sym (l .loop .inv .2 ∙ ap (λ (n : ℕ). l .loop .i + n) (before-end (l .before .args .wanted) s (l .loop .i) (c .loop-test .left)) ∙ add-zero _)
+    sym (l .loop .inv .is ∙ ap (λ (n : ℕ). l .loop .i + n) (before-end (l .before .args .wanted) s (l .loop .i) (c .loop-test .left)) ∙ add-zero _)
 
 pub next-octet-spec : {M : Type 1} → statement M
 next-octet-spec =

@@ -5,14 +5,14 @@ use Prim.Native.Nat.{_-_, _≤_}
 use lib.ListN.{take, drop}
 use Rattle.leaves.specs.Octets.{has, before}
 use Rattle.leaves.proofs.SearchLaws.{has-none, has-next}
-use Rattle.leaves.proofs.lines.any_of_sixteen.Statement.{statement}
-use Rattle.leaves.proofs.lines.any_of_sixteen.Tie as tie
+use Rattle.leaves.proofs.lines.any_in_64.Statement.{statement}
+use Rattle.leaves.proofs.lines.any_in_64.Tie as tie
 
 abbrev Inv-loop : tie.InvT-loop
-Inv-loop s at wanted hit₀ j₀ hit j = (j ≤ 16) × (hit ≡ has wanted (take j (drop at s)))
+Inv-loop s at wanted hit₀ j₀ hit j = (j ≤ 64) × (hit ≡ has wanted (take j (drop at s)))
 
 abbrev μ-loop : tie.MeasureT-loop
-μ-loop s at wanted hit₀ j₀ hit j = 16 - j
+μ-loop s at wanted hit₀ j₀ hit j = 64 - j
 
 loop-holds : tie.Need-loop-holds Inv-loop μ-loop
 loop-holds c = (search needs, has-none (c .before .args .wanted) (drop (c .before .args .at) (c .before .args .s .now)))
@@ -42,11 +42,11 @@ returns : tie.Need-returns Inv-loop μ-loop
 returns c =
     let l = c .before in
     let a = l .before .before .args in
-    let e : l .loop .j ≡ 16 = omega arith in
+    let e : l .loop .j ≡ 64 = omega arith in
     rw e at (l .loop .inv .1)
 
-pub any-of-sixteen-spec : {M : Type 1} → statement M
-any-of-sixteen-spec =
+pub any-in-64-spec : {M : Type 1} → statement M
+any-in-64-spec =
     tie.close
     (tie.spec
     Inv-loop

@@ -1,0 +1,13 @@
+use Rattle.leaves.proofs.lines.worth.Statement.{statement}
+use Rattle.leaves.proofs.lines.worth.Tie as tie
+use Prim.Native.Nat.{_-_}
+use borrow.Author.Tests.{eq-eqb, ne-eqb}
+
+returns : tie.Need-returns
+returns c = rw (eq-eqb _ _ (c .if1 .taken))
+
+returns-2 : tie.Need-returns-2
+returns-2 c = rw (ne-eqb _ _ (c .if1 .left))
+
+pub worth-spec : {M : Type 1} → statement M
+worth-spec = tie.close (tie.spec returns returns-2)
