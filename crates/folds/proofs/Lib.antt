@@ -1,3 +1,4 @@
 pub mod ListLaws
 pub mod LineTexts
 pub mod GrowLaws
+pub mod TightPut

@@ -1,13 +1,15 @@
 -- What the code of rule 4 asks of its callers, and what it gives. Assumes nothing.
 use mathlib.Core.Path.{_≡_}
 use mathlib.Core.List.{List}
-use Prim.Native.Nat.{ℕ, _≤_, _<_}
+use Prim.Native.Nat.{ℕ, _+_, _-_, _≤_, _<_}
 use lib.ListN.{length}
 use Rattle.leaves.specs.Paste.{pasted}
 use Rattle.folds.specs.Rule.{Ruling}
 use Rattle.maps.specs.Good.{Fits}
+use Rattle.maps.specs.Places.{inBlock}
 use Rattle.maps.specs.declared.Field.{Field}
 use Rattle.folds.specs.declared.Change.{Change}
+use Rattle.folds.specs.declared.Change.the-variants.{Put}
 
 pub record FoldReady (block store : List ℕ) (start count : ℕ) (last : Field) (fields room mark : ℕ) : Type 0 where
   pub order : start ≤ count
@@ -33,3 +35,7 @@ pub record Folding (block store text : List ℕ) (last : Field) (fields room mar
   pub small : length block ≤ 65536
   pub short : length text ≤ 65536
   pub value : 0 < fields → Fits (length block) mark (last .value)
+
+-- the field of a line of k octets at n in the block: c octets, a colon, a space, the value, CR and LF
+abbrev pub putTight : ℕ → ℕ → ℕ → ℕ → ℕ → Change
+putTight n c k fields mark = Put fields (record { key = inBlock n (n + c); value = inBlock (n + (c + 2)) (n + (k - 2)) }) mark

@@ -5,14 +5,17 @@ use leaves::trims;
 use maps::Field;
 use maps::Place;
 ghost use mathlib.Core.Path.{_≡_};
+ghost use mathlib.Core.Bool.{not, _&&_};
 ghost use mathlib.Core.List.{_∷_, _++_};
 ghost use Prim.Native.Nat.{_+_, _-_, _≤_, _<_};
+ghost use lib.Dec.{ltb};
 ghost use lib.ListN.{length, take, drop};
+ghost use Rattle.leaves.specs.Line.{tight};
 ghost use Rattle.leaves.specs.Octets.{before};
 ghost use Rattle.leaves.specs.Paste.{pasted};
 ghost use Rattle.maps.specs.Places.{part};
 ghost use Rattle.folds.specs.Rule.{endsBlock, continues, split, plain, grown, folded, rule4, trimmedAt, putField};
-ghost use Rattle.folds.specs.Asks.{Changes, FoldReady, Roomy, Folding};
+ghost use Rattle.folds.specs.Asks.{Changes, FoldReady, Roomy, Folding, putTight};
 
 // What a line does: nothing, the status, a field in a slot with the mark after it, or a refusal.
 pub enum Change {
@@ -279,4 +282,52 @@ pub fn rule_four(
         return fold_line(whole, store, text, last, fields, room, mark);
     }
     name_line(line, start, fields, mark)
+}
+
+// Whether a line is a field that tells its places at a glance: no status is awaited, there is a slot, and the line is tight around
+// its colon at c.
+fn is_tight_field(line: &[u8], c: usize, awaits: bool, fields: usize) -> bool
+    ensures { λ r. ⌜ r ≡ (not awaits && (ltb fields 256 && tight c (now (line .entry)))) ⌝ }
+{
+    if awaits {
+        return false;
+    }
+    if fields < 256 {
+        return lines::is_tight(line, c);
+    }
+    false
+}
+
+// The field of a tight line of n octets that stands in the block at start, with its colon at c.
+fn tight_field(start: usize, c: usize, n: usize, fields: usize, mark: usize) -> Change
+    requires { ⌜ (c + 5 ≤ n) × (start + n ≤ 65536) ⌝ }
+    ensures { λ r. ⌜ r ≡ putTight start c n fields mark ⌝ }
+{
+    let key = maps::in_block(start, start + c);
+    let value = maps::in_block(start + (c + 2), start + (n - 2));
+    Change::Put(fields, Field { key, value }, mark)
+}
+
+// What rule_four does, told where the line's first colon is: nearly every line is tight and needs no search for its blanks.
+pub fn line_change(
+    c: usize,
+    block: &[u8],
+    store: &mut [u8],
+    start: usize,
+    count: usize,
+    awaits: bool,
+    last: Field,
+    fields: usize,
+    room: usize,
+    mark: usize,
+) -> Change
+    requires { ⌜ FoldReady (now block) (now store) start count last fields room mark × (c ≡ before 58 (drop start (take count (now block)))) ⌝ }
+    ensures { λ r. ⌜ Changes (rule4 room (take count (now (block .entry))) start awaits fields last mark (take mark (now (store .entry)))) (now (store .entry)) mark (now (store .exit)) r ⌝ }
+{
+    let whole = &block[..count];
+    let line = &whole[start..];
+    if is_tight_field(line, c, awaits, fields) {
+        return tight_field(start, c, line.len(), fields, mark);
+    }
+    rule_four(block, store, start, count, awaits, last, fields, room, mark)
 }

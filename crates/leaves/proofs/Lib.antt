@@ -8,4 +8,5 @@ pub mod SearchLaws
 pub mod ScanLaws
 pub mod EndLaws
 pub mod LineLaws
+pub mod TightLaws
 pub mod PasteLaws

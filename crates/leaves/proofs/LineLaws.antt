@@ -1,12 +1,12 @@
 -- Laws of taking octets until a line ends. Assumes nothing.
-use mathlib.Core.Path.{_≡_, sym, subst}
+use mathlib.Core.Path.{_≡_, sym, subst, _∙_}
 use mathlib.Core.Bool.{Bool, true, false, cond}
-use mathlib.Core.List.{List, [], _∷_, _++_}
+use mathlib.Core.List.{List, [], _∷_, _++_, append-assoc}
 use Prim.Native.Nat.{ℕ, zero, suc, _+_, _-_, _≤_, _<_}
 use native.Mathlib.Omega.{arith}
 use lib.Dec.{eqb}
-use lib.ListN.{length, take, drop}
-use lib.Seq.{length-take-le}
+use lib.ListN.{length, take, drop, length-append}
+use lib.Seq.{length-take-le, take-at, drop-at}
 use Rattle.leaves.specs.Paste.{pasted}
 use Rattle.leaves.proofs.PasteLaws.{tail-all, part-length, part-back}
 use Rattle.leaves.specs.Line.{taken, further, endsLine, taking, Takes}
@@ -30,6 +30,18 @@ take-back p d₀ from count limit quirks cr b ys r order within e t =
       fits = f;
       wrote = part-back d₀ count limit order within (take (taken r) (drop from p)) ys (rw (length-take-le (taken r) (drop from p) n) f) w;
     }
+
+-- what was taken stands in the block from its place on
+pub taken-back : {quirks cr : Bool} {room at : ℕ} {s d₀ d : List ℕ} {r : Took} → Takes quirks cr room at s d₀ d r → at + room ≤ length d₀
+    → drop at (take (at + taken r) d) ≡ take (taken r) s
+unfolding pasted
+taken-back {quirks} {cr} {room} {at} {s} {d₀} {d} {r} t fits =
+    let new = take (taken r) s in
+    let n : length new ≡ taken r = length-take-le (taken r) s (t .within) in
+    let m : length (take at d₀) ≡ at = length-take-le at d₀ (omega arith) in
+    let l : length (take at d₀ ++ new) ≡ at + taken r = length-append (take at d₀) new ∙ rw (m, n) in
+    let q : d ≡ (take at d₀ ++ new) ++ drop (at + length new) d₀ = t .wrote ∙ sym (append-assoc (take at d₀) new (drop (at + length new) d₀)) in
+    rw (q, take-at (take at d₀ ++ new) (drop (at + length new) d₀) (at + taken r) l) (drop-at (take at d₀) new at m)
 
 -- a line that ends has an octet
 abbrev Some : Took → Type 0

@@ -54,5 +54,5 @@ lineEnd quirks cr (x ∷ xs) = cond (endsLine quirks cr x) 0 (suc (lineEnd quirk
 -- whether a line is c octets that begin and end above space, the octet at c, one space, octets that begin and end above space, CR and LF
 unfoldable pub tight : ℕ → List ℕ → Bool
 tight c l =
-    leb 1 c && leb (c + 5) (length l) && eqb (getD l (length l - 1) 0) 10 && eqb (getD l (length l - 2) 0) 13 && ltb 32 (getD l (length l - 3) 0)
-    && eqb (getD l (c + 1) 0) 32 && ltb 32 (getD l (c + 2) 0) && ltb 32 (getD l (c - 1) 0) && ltb 32 (getD l 0 0)
+    leb 1 c && (leb (c + 5) (length l) && (eqb (getD l (length l - 1) 0) 10 && (eqb (getD l (length l - 2) 0) 13 && (ltb 32 (getD l (length l - 3) 0)
+    && (eqb (getD l (c + 1) 0) 32 && (ltb 32 (getD l (c + 2) 0) && (ltb 32 (getD l (c - 1) 0) && ltb 32 (getD l 0 0))))))))

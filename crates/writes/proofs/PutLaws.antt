@@ -8,7 +8,6 @@ use lib.ListN.{length, set, take, drop, length-append, length-set, length-drop, 
 use lib.Seq.{take-at, drop-at, drop-drop, length-take-le, set-split}
 use Rattle.leaves.specs.Paste.{pasted}
 use Rattle.leaves.proofs.PasteLaws.{pasted-more}
-use Rattle.maps.specs.Places.{at}
 use Rattle.writes.specs.Written.{Put}
 
 -- one behind the other

@@ -1,3 +1,4 @@
+-- `leaves::lines::before_in_64` meets its contract. Assumes nothing.
 use Rattle.leaves.proofs.lines.before_in_64.Statement.{statement}
 use Rattle.leaves.proofs.lines.before_in_64.Tie as tie
 use borrow.Author.Needs.{needs}

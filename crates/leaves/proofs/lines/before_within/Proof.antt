@@ -1,3 +1,4 @@
+-- `leaves::lines::before_within` meets its contract. Assumes nothing.
 use borrow.Author.Needs.{needs}
 use Rattle.leaves.proofs.lines.before_within.Statement.{statement}
 use Rattle.leaves.proofs.lines.before_within.Tie as tie

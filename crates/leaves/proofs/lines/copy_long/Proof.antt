@@ -1,3 +1,4 @@
+-- `leaves::lines::copy_long` meets its contract. Assumes nothing.
 use Rattle.leaves.proofs.lines.copy_long.Statement.{statement}
 use Rattle.leaves.proofs.lines.copy_long.Tie as tie
 use borrow.Author.Needs.{needs}

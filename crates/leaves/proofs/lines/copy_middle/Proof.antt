@@ -1,3 +1,4 @@
+-- `leaves::lines::copy_middle` meets its contract. Assumes nothing.
 use borrow.Author.Needs.{needs}
 use Rattle.leaves.proofs.lines.copy_middle.Statement.{statement}
 use Rattle.leaves.proofs.lines.copy_middle.Tie as tie

@@ -1,3 +1,4 @@
+-- `leaves::lines::copy_short` meets its contract. Assumes nothing.
 use borrow.Author.Needs.{needs}
 use native.Mathlib.Omega.{arith}
 use native.Mathlib.Nat.{zero-add}

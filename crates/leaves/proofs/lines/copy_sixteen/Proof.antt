@@ -1,3 +1,4 @@
+-- `leaves::lines::copy_sixteen` meets its contract. Assumes nothing.
 use borrow.Author.Needs.{needs}
 use Rattle.leaves.proofs.lines.copy_sixteen.Statement.{statement}
 use Rattle.leaves.proofs.lines.copy_sixteen.Tie as tie

@@ -1,3 +1,4 @@
+-- `leaves::lines::cr_before` meets its contract. Assumes nothing.
 use borrow.Author.Needs.{needs}
 use Rattle.leaves.proofs.lines.cr_before.Statement.{statement}
 use Rattle.leaves.proofs.lines.cr_before.Tie as tie

@@ -1,3 +1,4 @@
+-- `leaves::lines::find_far` meets its contract. Assumes nothing.
 use borrow.Author.Needs.{needs}
 use Rattle.leaves.proofs.lines.find_far.Statement.{statement}
 use Rattle.leaves.proofs.lines.find_far.Tie as tie

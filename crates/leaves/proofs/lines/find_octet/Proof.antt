@@ -1,3 +1,4 @@
+-- `leaves::lines::find_octet` meets its contract. Assumes nothing.
 use borrow.Author.Needs.{needs}
 use Rattle.leaves.proofs.lines.find_octet.Statement.{statement}
 use Rattle.leaves.proofs.lines.find_octet.Tie as tie

@@ -1,3 +1,4 @@
+-- `leaves::lines::is_tight` meets its contract. Assumes nothing.
 use borrow.Author.Needs.{needs}
 use Rattle.leaves.proofs.lines.is_tight.Statement.{statement}
 use Rattle.leaves.proofs.lines.is_tight.Tie as tie

@@ -1,3 +1,4 @@
+-- `leaves::lines::or_equal` meets its contract. Assumes nothing.
 use borrow.Author.Needs.{needs}
 use Prim.Native.Nat.{_-_}
 use Rattle.leaves.proofs.lines.or_equal.Statement.{statement}

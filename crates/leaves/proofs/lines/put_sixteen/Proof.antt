@@ -1,3 +1,4 @@
+-- `leaves::lines::put_sixteen` meets its contract. Assumes nothing.
 use Rattle.leaves.proofs.lines.put_sixteen.Statement.{statement}
 use Rattle.leaves.proofs.lines.put_sixteen.Tie as tie
 use borrow.Author.Needs.{needs}

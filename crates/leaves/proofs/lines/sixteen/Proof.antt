@@ -1,3 +1,4 @@
+-- `leaves::lines::sixteen` meets its contract. Assumes nothing.
 use Rattle.leaves.proofs.lines.sixteen.Statement.{statement}
 use Rattle.leaves.proofs.lines.sixteen.Tie as tie
 use borrow.Author.Needs.{needs}

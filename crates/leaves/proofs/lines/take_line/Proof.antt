@@ -1,3 +1,4 @@
+-- `leaves::lines::take_line` meets its contract. Assumes nothing.
 use borrow.Author.Needs.{needs}
 use Rattle.leaves.proofs.lines.take_line.Statement.{statement}
 use Rattle.leaves.proofs.lines.take_line.Tie as tie

@@ -1,3 +1,4 @@
+-- `leaves::lines::worth` meets its contract. Assumes nothing.
 use Rattle.leaves.proofs.lines.worth.Statement.{statement}
 use Rattle.leaves.proofs.lines.worth.Tie as tie
 use Prim.Native.Nat.{_-_}

@@ -1,0 +1,157 @@
+//! One driver for both sides: the Rust's header map on a reused map, and this library through its static library.
+//!
+//!     bench                  a line for each input, cut and side: best nanoseconds of one reading
+//!     bench INPUT CUT SIDE N  N readings of one side, for callgrind; SIDE is rust, ours or none
+use oracle::warc::header::HeaderMap;
+use std::hint::black_box;
+use std::io::{self, BufRead, Read, Seek, SeekFrom};
+use std::time::Instant;
+
+unsafe extern "C" {
+    fn speed_read(
+        pieces: usize, cut: usize, block: *mut u8, block_len: usize, store: *mut u8, store_len: usize, text: *const u8, text_len: usize,
+    ) -> usize;
+}
+
+/// A text handed out in pieces of `cut` octets.
+struct Cut {
+    text: &'static [u8],
+    at: usize,
+    cut: usize,
+}
+
+impl Read for Cut {
+    fn read(&mut self, _: &mut [u8]) -> io::Result<usize> {
+        unimplemented!()
+    }
+}
+
+impl Seek for Cut {
+    fn seek(&mut self, _: SeekFrom) -> io::Result<u64> {
+        unimplemented!()
+    }
+}
+
+impl BufRead for Cut {
+    fn fill_buf(&mut self) -> io::Result<&[u8]> {
+        let end = ((self.at / self.cut + 1) * self.cut).min(self.text.len());
+        Ok(&self.text[self.at..end])
+    }
+    fn consume(&mut self, n: usize) {
+        self.at += n;
+    }
+}
+
+fn text_of(length: usize) -> String {
+    (0..length).map(|i| b"abcdefghijklmnopqrstuvwxyz0123456789 ;=,"[(i * 7 + i / 11) % 40] as char).collect::<String>() + "zz"
+}
+
+fn inputs() -> [(&'static str, &'static [u8]); 5] {
+    let http = [
+        ("Date", "Sun, 15 Nov 2026 01:40:09 GMT"),
+        ("Server", "Apache/2.4.57 (Debian)"),
+        ("Last-Modified", "Fri, 13 Nov 2026 18:22:51 GMT"),
+        ("ETag", "\"2d3f1-5f1c8a7b2e4c0\""),
+        ("Accept-Ranges", "bytes"),
+        ("Content-Length", "185329"),
+        ("Cache-Control", "public, max-age=86400"),
+        ("Expires", "Mon, 16 Nov 2026 01:40:09 GMT"),
+        ("Vary", "Accept-Encoding,User-Agent"),
+        ("X-Content-Type-Options", "nosniff"),
+        ("X-Frame-Options", "SAMEORIGIN"),
+        ("Strict-Transport-Security", "max-age=31536000"),
+        ("Connection", "keep-alive"),
+        ("Content-Type", "application/octet-stream"),
+    ];
+    let mut http600 = String::from("HTTP/1.1 200 OK\r\n");
+    for (k, v) in http {
+        http600 += &format!("{k}: {v}\r\n");
+    }
+    http600 += "X-Request-ID: ";
+    while http600.len() < 596 {
+        http600.push('7');
+    }
+    http600 += "\r\n\r\n";
+    let warc = "WARC/1.1\r\nWARC-Type: response\r\nWARC-Record-ID: <urn:uuid:6a1b9f9e-3f7c-4f58-9c0e-1f4f8a0c2d11>\r\n\
+        WARC-Date: 2026-11-15T01:40:09Z\r\nWARC-Target-URI: https://www.example.org/some/path/to/a/page.html?query=value\r\n\
+        WARC-IP-Address: 203.0.113.17\r\nWARC-Payload-Digest: sha1:4X6DQAV3FQ2U6Q6LJXK3QH6V5S2O6ZJP\r\n\
+        WARC-Block-Digest: sha1:UBQ3Q7E5V2W4JZ6MCIX5HZ7X2YVQ3F4N\r\nWARC-Concurrent-To: <urn:uuid:0c8f4c47-4d7b-4fd1-8a5c-7d7b1f1f2f60>\r\n\
+        Content-Type: application/http; msgtype=response\r\nContent-Length: 18532\r\n\r\n";
+    let mut big = String::from("HTTP/1.1 200 OK\r\n");
+    for i in 0..60 {
+        big += &format!("X-Header-Number-{i:02}: {}\r\n", text_of(112));
+    }
+    big += "\r\n";
+    let value = format!("HTTP/1.1 200 OK\r\nSet-Cookie: {}\r\n\r\n", text_of(5000));
+    let mut short = String::from("HTTP/1.1 200 OK\r\n");
+    for i in 0..256 {
+        short += &format!("A{i:03}: {i}\r\n");
+    }
+    short += "\r\n";
+    [
+        ("http600", http600.into_bytes().leak()),
+        ("warc", warc.as_bytes()),
+        ("8k60", big.into_bytes().leak()),
+        ("value5k", value.into_bytes().leak()),
+        ("short256", short.into_bytes().leak()),
+    ]
+}
+
+struct Ours {
+    block: Vec<u8>,
+    store: Vec<u8>,
+}
+
+impl Ours {
+    fn read(&mut self, times: usize, cut: usize, text: &[u8]) -> usize {
+        let pieces = times * text.len().div_ceil(cut);
+        let (b, s) = (&mut self.block, &mut self.store);
+        unsafe { speed_read(pieces, cut, b.as_mut_ptr(), b.len(), s.as_mut_ptr(), s.len(), text.as_ptr(), text.len()) }
+    }
+}
+
+fn rust(map: &mut HeaderMap, times: usize, cut: usize, text: &'static [u8]) -> usize {
+    for _ in 0..times {
+        let mut reader = Cut { text: black_box(text), at: 0, cut };
+        map.parse_with_opts(&mut reader, true, 1 << 20, false).unwrap();
+    }
+    map.len()
+}
+
+fn main() {
+    let args: Vec<String> = std::env::args().collect();
+    let mut ours = Ours { block: vec![0; 32768], store: vec![0; 32768] };
+    let mut map = HeaderMap::default();
+    if args.len() == 5 {
+        let (name, text) = inputs().into_iter().find(|x| x.0 == args[1]).expect("input");
+        let cut = args[2].parse::<usize>().unwrap().clamp(1, text.len());
+        let times: usize = args[4].parse().unwrap();
+        let fields = match args[3].as_str() {
+            "rust" => rust(&mut map, times, cut, text),
+            "ours" => ours.read(times, cut, text),
+            _ => 0,
+        };
+        println!("{name} {cut} {} {times} {fields}", args[3]);
+        return;
+    }
+    for (name, text) in inputs() {
+        for cut in [text.len(), 1460, 64] {
+            if cut > text.len() {
+                continue;
+            }
+            let times = 400_000 / text.len() + 1;
+            assert_eq!(rust(&mut map, 1, cut, text), ours.read(1, cut, text));
+            let mut best = [f64::MAX; 2];
+            for _ in 0..60 {
+                let t = Instant::now();
+                black_box(rust(&mut map, times, cut, text));
+                best[0] = best[0].min(t.elapsed().as_nanos() as f64 / times as f64);
+                let t = Instant::now();
+                black_box(ours.read(times, cut, text));
+                best[1] = best[1].min(t.elapsed().as_nanos() as f64 / times as f64);
+            }
+            let piece = if cut == text.len() { "whole".into() } else { cut.to_string() };
+            println!("{name} {} {piece} {:.0} {:.0}", text.len(), best[0], best[1]);
+        }
+    }
+}

@@ -1,0 +1,8 @@
+pub mod Laid
+pub mod Kept
+pub mod Cut
+pub mod Thrift
+pub mod Never
+pub mod Untouched
+pub mod Coincide
+pub mod Marked

@@ -1,0 +1,1 @@
+// No code: the theorems over the layers stand in specs/.

@@ -1,0 +1,106 @@
+-- What the edits give: the answer, the map and both loans. Assumes nothing.
+use mathlib.Core.Bool.{Bool, true, false, _||_}
+use mathlib.Core.List.{List, [], _∷_, _++_}
+use Prim.Native.Nat.{ℕ, _+_}
+use lib.Dec.{ltb}
+use lib.ListN.{length}
+use Rattle.leaves.specs.Choice.{if_then_else_}
+use Rattle.leaves.specs.Paste.{lay, pasted}
+use Rattle.leaves.specs.Sanitise.{sanitised}
+use Rattle.leaves.specs.declared.refusals.Refusal.{Refusal}
+use Rattle.leaves.specs.declared.refusals.Refusal.the-variants.{FieldsFull, StoreFull}
+use Rattle.maps.specs.Places.{inStore}
+use Rattle.maps.specs.Good.{live, checkedDone, unless}
+use Rattle.maps.specs.Maps.{Given}
+use Rattle.maps.specs.declared.Field.{Field}
+use Rattle.maps.specs.declared.Status.{Status}
+use Rattle.maps.specs.declared.Status.the-variants.{At}
+use Rattle.maps.specs.declared.HeaderMap.{HeaderMap}
+use Rattle.lookups.specs.Lookups.{named}
+use Rattle.edits.specs.Fields.{keeps, replaced, putAt}
+use Rattle.edits.specs.declared.Edit.the-variants.{Done, Refused}
+use Rattle.edits.specs.declared.Edited.{Edited}
+
+-- a map with another table, number of fields, status and mark, and whether it is edited
+abbrev pub remade : HeaderMap → List Field → ℕ → Status → ℕ → Bool → HeaderMap
+remade m table fields status mark edited =
+    record {
+      table = table;
+      limit = m .limit;
+      room = m .room;
+      count = m .count;
+      line = m .line;
+      mark = mark;
+      fields = fields;
+      status = status;
+      awaits = m .awaits;
+      quirks = m .quirks;
+      edited = edited;
+      phase = m .phase;
+    }
+
+-- the map with these fields
+abbrev pub withFields : HeaderMap → List Field → ℕ → Bool → HeaderMap
+withFields m xs mark edited = remade m (lay (m .table) xs) (length xs) (m .status) mark edited
+
+-- a refused edit leaves "all": "map and lent memory keep their contents"
+abbrev pub refusing : HeaderMap → List ℕ → List ℕ → Refusal → Given Edited
+refusing m b s x = record { result = record { answer = Refused x; map = m }; block = b; store = s }
+
+-- an edit is done: it gives the map n, and the store became z
+abbrev pub done : HeaderMap → List ℕ → List ℕ → Given Edited
+done n b z = record { result = record { answer = Done; map = n }; block = b; store = z }
+
+-- "5 a 257th field is needed", "6 mark plus new octets exceed the room", else the map n, with the text t put "at the mark; .. the
+-- rest of the store stays"
+unfoldable pub changing : HeaderMap → List ℕ → List ℕ → HeaderMap → List ℕ → Given Edited
+changing m b s n t =
+    if ltb 256 (n .fields) then refusing m b s FieldsFull
+    else if ltb (m .room) (m .mark + length t) then refusing m b s StoreFull
+    else done n b (pasted s (m .mark) t)
+
+-- "Set and append put the new key, then the new value, at the mark": where they go
+abbrev pub newField : ℕ → ℕ → ℕ → Field
+newField n k v = record { key = inStore n (n + k); value = inStore (n + k) (n + k + v) }
+
+-- fields with the texts k and v put in; "Set, append .. mark the map edited"
+abbrev pub filling : HeaderMap → List ℕ → List ℕ → (Field → List Field) → List ℕ → List ℕ → Given Edited
+filling m b s xs k v =
+    changing m b s (withFields m (xs (newField (m .mark) (length k) (length v))) (m .mark + length (k ++ v)) true) (k ++ v)
+
+-- "Set replaces the first match with the new key and value, drops later ones, or appends."
+unfoldable pub setting : HeaderMap → List ℕ → List ℕ → List ℕ → List ℕ → Given Edited
+setting m b s key value =
+    unless (checkedDone m b s) (refusing m b s)
+    (filling m b s (λ new. replaced (named b s (sanitised true key)) new (live m)) (sanitised true key) (sanitised false value))
+
+-- append puts the new field behind the last
+unfoldable pub appending : HeaderMap → List ℕ → List ℕ → List ℕ → List ℕ → Given Edited
+appending m b s key value =
+    unless (checkedDone m b s) (refusing m b s)
+    (filling m b s (λ new. live m ++ (new ∷ [])) (sanitised true key) (sanitised false value))
+
+-- both, by the number of the field
+unfoldable pub putting : HeaderMap → List ℕ → List ℕ → ℕ → List ℕ → List ℕ → Given Edited
+putting m b s i key value =
+    filling m b s (λ new. putAt (named b s (sanitised true key)) new i (live m)) (sanitised true key) (sanitised false value)
+
+-- the fields that a remove leaves
+abbrev pub leaving : HeaderMap → List ℕ → List ℕ → List ℕ → List Field
+leaving m b s key = keeps (named b s (sanitised true key)) (live m)
+
+-- "Remove drops all matches", and marks the map edited "only if something went"
+unfoldable pub removing : HeaderMap → List ℕ → List ℕ → List ℕ → Given Edited
+removing m b s key =
+    unless (checkedDone m b s) (refusing m b s)
+    (done (withFields m (leaving m b s key) (m .mark) (m .edited || ltb (length (leaving m b s key)) (m .fields))) b s)
+
+-- the map with the text of n octets at the mark as its status
+abbrev pub withStatus : HeaderMap → ℕ → HeaderMap
+withStatus m n = remade m (m .table) (m .fields) (At (inStore (m .mark) (m .mark + n))) (m .mark + n) true
+
+-- "set status its text"; "in keys and status lines drops colons"
+unfoldable pub statusing : HeaderMap → List ℕ → List ℕ → List ℕ → Given Edited
+statusing m b s text =
+    unless (checkedDone m b s) (refusing m b s)
+    (changing m b s (withStatus m (length (sanitised true text))) (sanitised true text))

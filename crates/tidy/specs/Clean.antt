@@ -1,0 +1,97 @@
+-- Clean maps and tidy blocks. Assumes nothing.
+use mathlib.Core.Bool.{Bool, true, false, _&&_, not}
+use mathlib.Core.List.{List, [], _∷_, map}
+use mathlib.Core.Option.{Option, none, some}
+use mathlib.Core.Path.{_≡_, refl}
+use Prim.Native.Nat.{ℕ}
+use lib.Dec.{eqb}
+use lib.ListN.{length}
+use Rattle.leaves.specs.Octets.{has, sameList}
+use Rattle.leaves.specs.Trim.{trimmed}
+use Rattle.maps.specs.Maps.{empty}
+use Rattle.maps.specs.declared.Field.{Field}
+use Rattle.maps.specs.declared.Status.the-variants.{Absent}
+use Rattle.maps.specs.declared.Phase.the-variants.{Reading as Open}
+use Rattle.reader.specs.Reading.{Rules, Reading, fed}
+use Rattle.reader.specs.Calls.{readingOf}
+use Rattle.reader.specs.declared.Answer.{Answer}
+use Rattle.reader.specs.declared.Answer.the-variants.{More, Blank, Input, Refused}
+use Rattle.lookups.specs.Said.{Pair, Said, pairAt, statusAt}
+use Rattle.writes.specs.Written.{rebuilt}
+
+-- "without CR, LF or outer blanks": trimming takes nothing off
+unfoldable pub neat : List ℕ → Bool
+neat l = not (has 13 l) && (not (has 10 l) && sameList (trimmed l) l)
+
+abbrev pub filled : List ℕ → Bool
+filled [] = false
+filled (x ∷ xs) = true
+
+-- "every key non-empty, without colon; keys, values .. without CR, LF or outer blanks"
+unfoldable pub cleanPair : Pair → Bool
+cleanPair p = filled (p .key) && (not (has 58 (p .key)) && (neat (p .key) && neat (p .value)))
+
+unfoldable pub cleanPairs : List Pair → Bool
+cleanPairs [] = true
+cleanPairs (p ∷ ps) = cleanPair p && cleanPairs ps
+
+-- "a present status without CR, LF or outer blanks; a present status non-empty"
+unfoldable pub cleanStatus : Option (List ℕ) → Bool
+cleanStatus none = true
+cleanStatus (some l) = filled l && neat l
+
+-- "Clean: every key non-empty, without colon; keys, values and a present status without CR, LF or outer blanks; a present status
+-- non-empty."
+unfoldable pub clean : Said → Bool
+clean m = cleanStatus (m .status) && cleanPairs (m .pairs)
+
+-- a status is present
+abbrev pub expects : Option (List ℕ) → Bool
+expects none = false
+expects (some l) = true
+
+-- a reading that begins, with a status line expected or not
+abbrev pub begun : Bool → Reading
+begun status = record { block = []; line = 0; found = record { awaits = status; status = Absent; fields = []; store = [] }; answer = More }
+
+-- it is that of the map which begin makes, whatever is in the loans
+pub begun-is : (table : List Field) (limit room : ℕ) (status quirks : Bool) (b s : List ℕ) → readingOf (empty table limit room status quirks Open) b s ≡ begun status
+begun-is table limit room status quirks b s = refl
+
+-- what a reading says
+unfoldable pub said : Reading → Said
+said r =
+    record {
+      status = statusAt (r .block) (r .found .store) (r .found .status);
+      pairs = map (pairAt (r .block) (r .found .store)) (r .found .fields);
+    }
+
+-- a reading that ended at its blank line, has taken all of b and says m
+pub record Gives (b : List ℕ) (m : Said) (r : Reading) : Type 0 where
+  pub answer : r .answer ≡ Blank
+  pub block : r .block ≡ b
+  pub says : said r ≡ m
+
+-- the reading ended at its blank line
+abbrev pub atBlank : Answer → Bool
+atBlank More = false
+atBlank Blank = true
+atBlank Input = false
+atBlank (Refused e) = false
+
+abbrev pub alike : Bool → Bool → Bool
+alike true b = b
+alike false b = not b
+
+-- "the reading takes all of it and ends at its blank line, the map is clean, a status is present exactly when expected, and
+-- rebuilding gives the same octets": of the block b and its reading r
+unfoldable pub tidyAfter : Bool → List ℕ → Reading → Bool
+tidyAfter status b r =
+    eqb (length (r .block)) (length b) &&
+    (atBlank (r .answer) &&
+    (clean (said r) && (alike (expects (said r .status)) status && sameList (rebuilt (said r)) b)))
+
+-- "A block is tidy for its flags and limit exactly if the reading takes all of it and ends at its blank line, the map is clean, a
+-- status is present exactly when expected, and rebuilding gives the same octets."
+unfoldable pub tidy : Rules → Bool → List ℕ → Bool
+tidy R status b = tidyAfter status b (fed R (begun status) b)

@@ -1,0 +1,1 @@
+// Clean maps and tidy blocks. Only definitions and theorems so far: specs/ and proofs/.
