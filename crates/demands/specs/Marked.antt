@@ -1,4 +1,5 @@
 -- The marked examples, through the calls: one table, and one fact over it. Assumes nothing.
+use mathlib.Core.Path.{_≡_, _∙_, ap}
 use mathlib.Core.Bool.{Bool, true, false, _&&_}
 use mathlib.Core.List.{List, [], _∷_, _++_}
 use mathlib.Core.Option.{Option, none, some, Option·getD}
@@ -41,7 +42,7 @@ use Rattle.codes.specs.Codes.{statusText, coding}
 use Rattle.codes.specs.declared.line.Code.{Code}
 use Rattle.codes.specs.declared.line.Code.the-variants.{Is, None as NoCode, Refused as Uncoded}
 use Rattle.tidy.specs.Clean.{neat, cleanPair, cleanPairs, cleanStatus, clean}
-use Rattle.demands.specs.Cut.{andThen}
+use Rattle.demands.specs.Cut.{andThen, feedings, joined, cut}
 
 -- an answer as a number: this paper's, or 100 for more, 101 for an end by a blank line, 102 for one by the end of input
 abbrev pub code : Answer → ℕ
@@ -79,13 +80,13 @@ reads awaits quirks limit text =
 abbrev pub ends : List ℕ → Given Fed
 ends text = let g = reads false false 32768 text in andThen finishing (g .result .answer) g
 
--- the count of a write, or this paper's number; then the output
-abbrev pub count : Wrote → ℕ
-count (Count n) = n
-count (Unwritten e) = number e
+-- 100 and the count of a write, or this paper's number; then the output
+abbrev pub wroteCode : Wrote → List ℕ
+wroteCode (Count n) = 100 ∷ n ∷ []
+wroteCode (Unwritten e) = number e ∷ []
 
 abbrev pub wroteShown : Writes → List (List ℕ)
-wroteShown w = (count (w .result) ∷ []) ∷ w .out ∷ []
+wroteShown w = wroteCode (w .result) ∷ w .out ∷ []
 
 -- a write into an output of n octets 187
 abbrev pub writes : ℕ → HeaderMap → List ℕ → List ℕ → List (List ℕ)
@@ -156,7 +157,7 @@ table =
     ((102 ∷ 4 ∷ 4 ∷ 0 ∷ []) ∷ octets "A" ∷ octets "b" ∷ []) ∷
     -- M8 nothing, finish: writes CRLF
     row (let g = ends [] in shown g ++ writes 4 (g .result .map) (g .block) (g .store))
-    ((102 ∷ 0 ∷ 0 ∷ 0 ∷ []) ∷ (2 ∷ []) ∷ (13 ∷ 10 ∷ 187 ∷ 187 ∷ []) ∷ []) ∷
+    ((102 ∷ 0 ∷ 0 ∷ 0 ∷ []) ∷ (100 ∷ 2 ∷ []) ∷ (13 ∷ 10 ∷ 187 ∷ 187 ∷ []) ∷ []) ∷
     -- M9 set `: a` to `v` on empty: key space `a`, not clean
     row
     (let z : List ℕ = replicate 32768 0 in
@@ -177,7 +178,7 @@ table =
     (let z : List ℕ = replicate 32768 0 in
     let g = appending emptied z z (octets "X") (octets "a\r\nb") in
     editShown g ++ writes 12 (g .result .map) (g .block) (g .store))
-    ((100 ∷ 4 ∷ []) ∷ octets "X" ∷ octets "a b" ∷ (10 ∷ []) ∷ (octets "X: a b\r\n\r\n" ++ 187 ∷ 187 ∷ []) ∷ []) ∷ []
+    ((100 ∷ 4 ∷ []) ∷ octets "X" ∷ octets "a b" ∷ (100 ∷ 10 ∷ []) ∷ (octets "X: a b\r\n\r\n" ++ 187 ∷ 187 ∷ []) ∷ []) ∷ []
 
 abbrev pub sames : List (List ℕ) → List (List ℕ) → Bool
 sames [] [] = true
@@ -193,3 +194,11 @@ holds (r ∷ rs) = sames (r .gives) (r .says) && holds rs
 pub marked : T (holds table)
 unfolding table if_then_else_ blank digit endsLine crBefore decimalFrom isDecimal contentLength has before all sameList trimEnd trimStart leading lastOf goodFields good checked endsBlock grown regrown folded split rule4 ruled closed put step fed finished fedFrom finishedFrom feeding finishing clearing checkedRooms beginning pasted dropped spaced scrubbed named lowered keeps replaced changing setting appending shownStatus isHttp behindSpace withoutPlus smallNumber statusCode reasonStart coding neat cleanPair cleanPairs cleanStatus clean saying pairLine pairLines statusLine rebuilt written giving writing
 marked = tt
+
+-- "any cut of M1": the text of a reading in the table may come in any pieces
+pub in-pieces : (awaits quirks : Bool) (limit : ℕ) (text : List ℕ) (ps : List (List ℕ)) → joined ps ≡ text
+    → (let z : List ℕ = replicate 32768 0 in
+    let g = beginning unmade limit 32768 awaits quirks z z in
+    feedings (g .result .map) (g .block) (g .store) ps)
+    ≡ reads awaits quirks limit text
+in-pieces awaits quirks limit text ps e = cut _ _ _ ps ∙ ap (feeding _ _ _) e

@@ -1,3 +1,5 @@
 pub mod KeepLaws
 pub mod PutLaws
 pub mod EditLaws
+pub mod OutcomeLaws
+pub mod FieldLaws

@@ -63,37 +63,46 @@ changing m b s n t =
 abbrev pub newField : ℕ → ℕ → ℕ → Field
 newField n k v = record { key = inStore n (n + k); value = inStore (n + k) (n + k + v) }
 
--- fields with the texts k and v put in; "Set, append .. mark the map edited"
-abbrev pub filling : HeaderMap → List ℕ → List ℕ → (Field → List Field) → List ℕ → List ℕ → Given Edited
-filling m b s xs k v =
-    changing m b s (withFields m (xs (newField (m .mark) (length k) (length v))) (m .mark + length (k ++ v)) true) (k ++ v)
+-- an edit that makes the map n and puts the text t at the mark, after 3, 2 and 7
+abbrev pub editing : HeaderMap → List ℕ → List ℕ → HeaderMap → List ℕ → Given Edited
+editing m b s n t = unless (checkedDone m b s) (refusing m b s) (changing m b s n t)
+
+-- the map with a field for the texts k and v put in; "Set, append .. mark the map edited"
+abbrev pub filled : HeaderMap → (Field → List Field) → List ℕ → List ℕ → HeaderMap
+filled m xs k v = withFields m (xs (newField (m .mark) (length k) (length v))) (m .mark + length (k ++ v)) true
 
 -- "Set replaces the first match with the new key and value, drops later ones, or appends."
 unfoldable pub setting : HeaderMap → List ℕ → List ℕ → List ℕ → List ℕ → Given Edited
 setting m b s key value =
-    unless (checkedDone m b s) (refusing m b s)
-    (filling m b s (λ new. replaced (named b s (sanitised true key)) new (live m)) (sanitised true key) (sanitised false value))
+    editing m b s
+    (filled m (λ new. replaced (named b s (sanitised true key)) new (live m)) (sanitised true key) (sanitised false value))
+    (sanitised true key ++ sanitised false value)
 
 -- append puts the new field behind the last
 unfoldable pub appending : HeaderMap → List ℕ → List ℕ → List ℕ → List ℕ → Given Edited
 appending m b s key value =
-    unless (checkedDone m b s) (refusing m b s)
-    (filling m b s (λ new. live m ++ (new ∷ [])) (sanitised true key) (sanitised false value))
+    editing m b s
+    (filled m (λ new. live m ++ (new ∷ [])) (sanitised true key) (sanitised false value))
+    (sanitised true key ++ sanitised false value)
 
--- both, by the number of the field
+-- both, by the number of the field, after the first checks
 unfoldable pub putting : HeaderMap → List ℕ → List ℕ → ℕ → List ℕ → List ℕ → Given Edited
 putting m b s i key value =
-    filling m b s (λ new. putAt (named b s (sanitised true key)) new i (live m)) (sanitised true key) (sanitised false value)
+    changing m b s
+    (filled m (λ new. putAt (named b s (sanitised true key)) new i (live m)) (sanitised true key) (sanitised false value))
+    (sanitised true key ++ sanitised false value)
 
 -- the fields that a remove leaves
 abbrev pub leaving : HeaderMap → List ℕ → List ℕ → List ℕ → List Field
 leaving m b s key = keeps (named b s (sanitised true key)) (live m)
 
--- "Remove drops all matches", and marks the map edited "only if something went"
+-- "remove only if something went" marks the map edited
+abbrev pub thinned : HeaderMap → List Field → HeaderMap
+thinned m xs = withFields m xs (m .mark) (m .edited || ltb (length xs) (m .fields))
+
+-- "Remove drops all matches."
 unfoldable pub removing : HeaderMap → List ℕ → List ℕ → List ℕ → Given Edited
-removing m b s key =
-    unless (checkedDone m b s) (refusing m b s)
-    (done (withFields m (leaving m b s key) (m .mark) (m .edited || ltb (length (leaving m b s key)) (m .fields))) b s)
+removing m b s key = unless (checkedDone m b s) (refusing m b s) (done (thinned m (leaving m b s key)) b s)
 
 -- the map with the text of n octets at the mark as its status
 abbrev pub withStatus : HeaderMap → ℕ → HeaderMap
@@ -101,6 +110,4 @@ withStatus m n = remade m (m .table) (m .fields) (At (inStore (m .mark) (m .mark
 
 -- "set status its text"; "in keys and status lines drops colons"
 unfoldable pub statusing : HeaderMap → List ℕ → List ℕ → List ℕ → Given Edited
-statusing m b s text =
-    unless (checkedDone m b s) (refusing m b s)
-    (changing m b s (withStatus m (length (sanitised true text))) (sanitised true text))
+statusing m b s text = editing m b s (withStatus m (length (sanitised true text))) (sanitised true text)

@@ -1,7 +1,7 @@
 -- Laws of a search among the first fields of a table. Assumes nothing.
-use mathlib.Core.Path.{_≡_, _∙_}
+use mathlib.Core.Path.{_≡_, refl, _∙_}
 use mathlib.Core.Bool.{Bool, true, false}
-use mathlib.Core.List.{List, [], _∷_}
+use mathlib.Core.List.{List, [], _∷_, map}
 use Prim.Native.Nat.{ℕ, _+_, _≤_, _<_}
 use native.Mathlib.Omega.{arith}
 use native.Mathlib.Numerals.{add-one}
@@ -42,6 +42,16 @@ module _ (t : List Field) (n i : ℕ) where
     pub seek-end : n ≤ i → seeking p i (drop i (take n t)) ≡ Missing
     unfolding seeking
     seek-end h = rw (live-end h)
+
+-- a search sees only what the test says of each
+pub seek-map {ℓ κ} : {A : Type ℓ} {B : Type κ} (f : A → B) (p : A → Bool) (q : B → Bool) (n : ℕ) (xs : List A) → map p xs ≡ map q (map f xs)
+    → seeking p n xs ≡ seeking q n (map f xs)
+unfolding seeking
+seek-map f p q n [] e = refl
+seek-map f p q n (x ∷ xs) e =
+    let h : p x ≡ q (f x) = cc in
+    let t : map p xs ≡ map q (map f xs) = cc in
+    rw (h, seek-map f p q (n + 1) xs t)
 
 module _ (m : HeaderMap) (b s name : List ℕ) (from : ℕ) where
   pub find-fine : Fine ≡ checkedDone m b s → finding m b s name from ≡ seeking (named b s name) from (drop from (live m))

@@ -24,8 +24,8 @@ use Rattle.lookups.specs.declared.Slot.the-variants.{Nothing, At as Hold
 unfoldable pub named : List ℕ → List ℕ → List ℕ → Field → Bool
 named b s name x = sameName (at b s (x .key)) name
 
--- the number of the first field that passes, the first of them being number n
-unfoldable pub seeking : (Field → Bool) → ℕ → List Field → Found
+-- the number of the first that passes, the first of them being number n
+unfoldable pub seeking {ℓ} : {A : Type ℓ} → (A → Bool) → ℕ → List A → Found
 seeking p n [] = Missing
 seeking p n (x ∷ xs) = if p x then At n else seeking p (n + 1) xs
 

@@ -1,7 +1,9 @@
 -- What a map says: its status and its fields, as octets. Assumes nothing.
+use mathlib.Core.Bool.{Bool}
 use mathlib.Core.List.{List, map}
 use mathlib.Core.Option.{Option, none, some}
 use Prim.Native.Nat.{ℕ}
+use Rattle.leaves.specs.Name.{sameName}
 use Rattle.maps.specs.Places.{at}
 use Rattle.maps.specs.Good.{live}
 use Rattle.maps.specs.declared.Field.{Field}
@@ -21,6 +23,10 @@ pub record Said : Type 0 where
 
 abbrev pub pairAt : List ℕ → List ℕ → Field → Pair
 pairAt b s x = record { key = at b s (x .key); value = at b s (x .value) }
+
+-- "Names compare without ASCII case."
+abbrev pub called : List ℕ → Pair → Bool
+called name x = sameName (x .key) name
 
 abbrev pub statusAt : List ℕ → List ℕ → Status → Option (List ℕ)
 statusAt b s Absent = none

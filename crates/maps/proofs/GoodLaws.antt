@@ -88,6 +88,10 @@ module _ (count mark : ℕ) where
       })
       (fields-fit xs (and-right (goodField count mark x) (goodFields count mark xs) e))
 
+pub no-fields : (count mark : ℕ) → goodFields count mark [] ≡ true
+unfolding goodFields
+no-fields count mark = refl
+
 pub counts-few : (limit room count mark line fields : ℕ) → goodCounts limit room count mark line fields ≡ true → fields ≤ 256
 counts-few limit room count mark line fields e =
     leb-true fields 256

@@ -241,7 +241,7 @@ pub fn good_counts(
     false
 }
 
-// 3 is not given: the map is good.
+// 3 is not given: the map is good. A map without fields is judged without its table, which would be copied.
 fn is_good(m: HeaderMap) -> bool
     ensures { λ r. ⌜ r ≡ good m ⌝ }
 {
@@ -252,10 +252,13 @@ fn is_good(m: HeaderMap) -> bool
     let line = m.line;
     let fields = m.fields;
     let status = m.status;
-    let t = m.table;
     if good_rooms(limit, room) {
         if good_counts(limit, room, count, mark, line, fields) {
             if good_status(status, count, mark) {
+                if fields == 0 {
+                    return true;
+                }
+                let t = m.table;
                 return good_fields(t, fields, count, mark);
             }
             return false;

@@ -1,11 +1,11 @@
 -- The loop of feed_lines: what holds at its test, and what each arm makes of it. Assumes nothing.
-use mathlib.Core.Path.{_≡_, refl, ap, _∙_}
+use mathlib.Core.Path.{_≡_, refl, sym, ap, _∙_}
 use mathlib.Core.Bool.{Bool, true, false, false≢true}
 use mathlib.Core.List.{List, _++_}
 use Prim.Native.Nat.{ℕ, _+_, _-_, _≤_}
 use native.Mathlib.Omega.{arith}
 use lib.ListN.{length, take, drop, set, length-drop}
-use lib.Seq.{drop-drop, length-take-le}
+use lib.Seq.{drop-at, drop-drop, length-take-le}
 use Rattle.leaves.specs.Paste.{pasted}
 use Rattle.leaves.specs.Line.{taken as tookCount, crBefore, Takes}
 use Rattle.leaves.specs.declared.lines.Took.{Took}
@@ -132,6 +132,20 @@ module _ {m : HeaderMap} {b₀ s₀ p b s : List ℕ} {t : List Field} {status :
 
     next-length : length (take (count + k) b′) ≡ count + k
     next-length = length-take-le (count + k) b′ b-next
+
+    -- the octets taken lie in the piece
+    pub line-inside : at + k ≤ length p
+    line-inside = omega (arith, inv .held .read, few-left (Line k) refl w)
+
+    -- the line, as the code cuts it out and as rule 4 does
+    pub line-at : drop start (take (count + k) b′) ≡ take (count + k - start) (drop start b′)
+    line-at = drop-take b′ start (count + k) (held-line .line) b-next
+
+    -- a line that begins with what was taken lies whole in the piece
+    pub line-whole : start ≡ count → take (count + k - start) (drop start b′) ≡ take k (drop at p)
+    line-whole e =
+        sym line-at ∙ ap (drop start) (take-next (Line k) refl w) ∙ ap (λ (n : ℕ). drop n (take count b ++ take k (drop at p))) e ∙
+        drop-at (take count b) (take k (drop at p)) count (length-take-le count b (b-long (Line k) refl w))
 
     abbrev next : Reading
     next = now-at b′ s t status awaits (count + k) start n mark More

@@ -1,5 +1,6 @@
 // The reader: begin, feed, finish and clear, over a map and its two loans.
 use folds::Change;
+use leaves::lines;
 use leaves::lines::Took;
 use leaves::refusals::Refusal;
 use maps::Checked;
@@ -8,8 +9,10 @@ use maps::Phase;
 use maps::Status;
 ghost use mathlib.Core.Path.{_≡_};
 ghost use Prim.Native.Nat.{_-_};
+ghost use Rattle.leaves.specs.Octets.{before};
 ghost use Rattle.maps.specs.Good.{Ready};
 ghost use Rattle.maps.specs.Maps.{Is};
+ghost use Rattle.reader.specs.Lying.{Lying};
 ghost use Rattle.reader.specs.Heads.{emptyHead, headAfter, headWhen};
 ghost use Rattle.reader.specs.Calls.{checkedRooms, fedFrom, finishedFrom, feeding, finishing, clearing, beginning};
 
@@ -104,6 +107,18 @@ fn last_of(n: usize) -> usize
     if n == 0 { 0 } else { n - 1 }
 }
 
+// How many octets of a line stand before its first colon. Where the line lies whole in the piece, at from, it is looked for there: octets
+// that were just stored are slow to read back.
+fn colon_of(piece: &[u8], from: usize, k: usize, line: &[u8], whole: bool) -> usize
+    requires { ⌜ Lying (now piece) from k (now line) whole ⌝ }
+    ensures { λ r. ⌜ r ≡ before 58 (now (line .entry)) ⌝ }
+{
+    if whole {
+        return lines::before_within(piece, from, k, 58);
+    }
+    lines::find_octet(line, 0, 58)
+}
+
 // Feeds a good map, line by line.
 fn feed_lines(m: HeaderMap, block: &mut [u8], store: &mut [u8], piece: &[u8]) -> Fed
     requires { ⌜ Ready m (now block) (now store) ⌝ }
@@ -125,7 +140,7 @@ fn feed_lines(m: HeaderMap, block: &mut [u8], store: &mut [u8], piece: &[u8]) ->
     let mut answer = Answer::More;
     let mut going = true;
     while going {
-        let took = leaves::lines::take_line(piece, at, block, count, limit, start, quirks);
+        let took = lines::take_line(piece, at, block, count, limit, start, quirks);
         match took {
             Took::More(k) => {
                 count += k;
@@ -139,6 +154,8 @@ fn feed_lines(m: HeaderMap, block: &mut [u8], store: &mut [u8], piece: &[u8]) ->
                 going = false;
             }
             Took::Line(k) => {
+                let from = at;
+                let whole = start == count;
                 count += k;
                 at += k;
                 let line = &block[start..count];
@@ -147,9 +164,11 @@ fn feed_lines(m: HeaderMap, block: &mut [u8], store: &mut [u8], piece: &[u8]) ->
                     answer = Answer::Blank;
                     going = false;
                 } else {
+                    let c = colon_of(piece, from, k, line, whole);
                     let last = last_of(n);
                     let f = t[last];
-                    let change = folds::rule_four(
+                    let change = folds::line_change(
+                        c,
                         block,
                         store,
                         start,
@@ -228,8 +247,8 @@ pub fn feed(m: HeaderMap, block: &mut [u8], store: &mut [u8], piece: &[u8]) -> F
     ensures { λ r. ⌜ Is (feeding m (now (block .entry)) (now (store .entry)) (now (piece .entry))) r (now (block .exit)) (now (store .exit)) ⌝ }
 {
     let phase = m.phase;
-    let on = maps::is_reading(phase);
-    match maps::check(m, on, block.len(), store.len()) {
+    let ready = maps::is_reading(phase);
+    match maps::check(m, ready, block.len(), store.len()) {
         Checked::Fine => feed_lines(m, block, store, piece),
         Checked::Refused(e) => Fed {
             map: m,

@@ -2,22 +2,29 @@
 use mathlib.Core.Path.{_≡_, refl, sym, _∙_, ap}
 use mathlib.Core.Bool.{Bool, true, false, _&&_, not, false≢true}
 use mathlib.Core.List.{List, [], _∷_, _++_}
-use Prim.Native.Nat.{ℕ, _+_}
-use borrow.Author.Tests.{ne-eqb, not-true}
+use Prim.Native.Nat.{ℕ, suc, _+_}
+use borrow.Author.Tests.{eq-eqb, ne-eqb, not-true}
 use lib.Dec.{eqb}
-use Rattle.leaves.specs.Choice.{by-if, and-left, and-right, or-left, or-right}
+use lib.ListN.{length}
+use Rattle.leaves.specs.Choice.{by-if, and-left, and-right, and-both, or-left, or-right}
 use Rattle.leaves.specs.Class.{blank}
-use Rattle.leaves.specs.Octets.{has, all, sameList}
+use Rattle.leaves.specs.Octets.{has, before, all, sameList}
 use Rattle.leaves.specs.Trim.{trimmed}
 use Rattle.leaves.proofs.NameLaws.{same-list-eq}
 use Rattle.folds.specs.Rule.{continues, endsBlock}
-use Rattle.tidy.specs.Clean.{neat, cleanPair}
+use Rattle.lookups.specs.Said.{Pair}
+use Rattle.tidy.specs.Clean.{neat, filled, cleanPair}
 use Rattle.tidy.proofs.TrimTexts.{first-solid}
 
 pub has-append : (c : ℕ) (a b : List ℕ) → has c a ≡ false → has c b ≡ false → has c (a ++ b) ≡ false
 unfolding has
 has-append c [] b e f = f
 has-append c (x ∷ xs) b e f = rw (or-left (eqb x c) (has c xs) e) (has-append c xs b (or-right (eqb x c) (has c xs) e) f)
+
+pub before-append : (c : ℕ) (a b : List ℕ) → has c a ≡ false → before c (a ++ c ∷ b) ≡ length a
+unfolding has before
+before-append c [] b e = rw (eq-eqb c c refl)
+before-append c (x ∷ xs) b e = rw (or-left (eqb x c) (has c xs) e) (ap suc (before-append c xs b (or-right (eqb x c) (has c xs) e)))
 
 -- an octet that is no blank is none of them
 unblank : (c x : ℕ) → blank c ≡ true → blank x ≡ false → eqb x c ≡ false
@@ -36,6 +43,10 @@ no-end quirks x l f =
     (λ e. ap (λ (t : Bool). t && sameList l (10 ∷ [])) (unblank 13 x refl f))
 
 -- what neat gives
+pub neat-cr : (l : List ℕ) → neat l ≡ true → has 13 l ≡ false
+unfolding neat
+neat-cr l e = not-true (has 13 l) (and-left (not (has 13 l)) _ e)
+
 pub neat-lf : (l : List ℕ) → neat l ≡ true → has 10 l ≡ false
 unfolding neat
 neat-lf l e = not-true (has 10 l) (and-left (not (has 10 l)) (sameList (trimmed l) l) (and-right (not (has 13 l)) _ e))
@@ -43,6 +54,31 @@ neat-lf l e = not-true (has 10 l) (and-left (not (has 10 l)) (sameList (trimmed 
 pub neat-trim : (l : List ℕ) → neat l ≡ true → trimmed l ≡ l
 unfolding neat
 neat-trim l e = same-list-eq (trimmed l) l (and-right (not (has 10 l)) (sameList (trimmed l) l) (and-right (not (has 13 l)) _ e))
+
+-- what a clean pair gives
+module _ (p : Pair) (c : cleanPair p ≡ true) where
+  pub pair-filled : filled (p .key) ≡ true
+  unfolding cleanPair
+  pair-filled = and-left (filled (p .key)) _ c
+
+  pub pair-colon : has 58 (p .key) ≡ false
+  unfolding cleanPair
+  pair-colon = not-true (has 58 (p .key)) (and-left (not (has 58 (p .key))) _ (and-right (filled (p .key)) _ c))
+
+  pair-texts : (neat (p .key) && neat (p .value)) ≡ true
+  unfolding cleanPair
+  pair-texts = and-right (not (has 58 (p .key))) _ (and-right (filled (p .key)) _ c)
+
+  pub pair-key : neat (p .key) ≡ true
+  pair-key = and-left (neat (p .key)) (neat (p .value)) pair-texts
+
+  pub pair-value : neat (p .value) ≡ true
+  pair-value = and-right (neat (p .key)) (neat (p .value)) pair-texts
+
+-- and what makes one
+pub is-pair : (k v : List ℕ) → filled k ≡ true → has 58 k ≡ false → neat k ≡ true → neat v ≡ true → cleanPair (record { key = k; value = v }) ≡ true
+unfolding cleanPair
+is-pair k v f h n m = and-both (filled k) _ f (and-both (not (has 58 k)) _ (ap not h) (and-both (neat k) (neat v) n m))
 
 pub record CleanPair (k : ℕ) (ks v : List ℕ) : Type 0 where
   pub solid : blank k ≡ false
@@ -53,14 +89,12 @@ pub record CleanPair (k : ℕ) (ks v : List ℕ) : Type 0 where
   pub trim-value : trimmed v ≡ v
 
 pub clean-pair : (k : ℕ) (ks v : List ℕ) → cleanPair (record { key = k ∷ ks; value = v }) ≡ true → CleanPair k ks v
-unfolding cleanPair
 clean-pair k ks v e =
-    let t : (neat (k ∷ ks) && neat v) ≡ true = and-right (not (has 58 (k ∷ ks))) _ e in
-    let u : neat (k ∷ ks) ≡ true = and-left (neat (k ∷ ks)) (neat v) t in
-    let w : neat v ≡ true = and-right (neat (k ∷ ks)) (neat v) t in
+    let u = pair-key (record { key = k ∷ ks; value = v }) e in
+    let w = pair-value (record { key = k ∷ ks; value = v }) e in
     record {
       solid = first-solid k ks (neat-trim (k ∷ ks) u);
-      colon = not-true (has 58 (k ∷ ks)) (and-left (not (has 58 (k ∷ ks))) _ e);
+      colon = pair-colon (record { key = k ∷ ks; value = v }) e;
       lf-key = neat-lf (k ∷ ks) u;
       lf-value = neat-lf v w;
       trim-key = neat-trim (k ∷ ks) u;

@@ -6,3 +6,7 @@ pub mod PairSays
 pub mod ReadsBack
 pub mod FewFields
 pub mod TidyBlocks
+pub mod MapSays
+pub mod ScanLines
+pub mod ScanPairs
+pub mod ScanBlocks

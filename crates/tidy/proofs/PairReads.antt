@@ -1,24 +1,25 @@
--- The line of a clean pair is read as the field that says it, the blank line as the end. Assumes nothing.
+-- The lines of clean pairs are read as a field each, the blank line as the end. Assumes nothing.
 use mathlib.Core.Path.{_≡_, refl, _∙_, ap}
-use mathlib.Core.Bool.{Bool, true, false}
+use mathlib.Core.Bool.{Bool, true, false, false≢true}
 use mathlib.Core.List.{List, [], _∷_, _++_, append-assoc, append-nil}
-use Prim.Native.Nat.{ℕ, suc, _+_, _≤_, _<_}
+use Prim.Native.Nat.{ℕ, _+_, _≤_, _<_}
 use native.Mathlib.Omega.{arith}
-use borrow.Author.Tests.{eq-eqb, lt-ltb}
-use lib.Dec.{eqb}
+use borrow.Author.Tests.{lt-ltb}
 use lib.ListN.{length, length-append}
-use lib.Seq.{take-at, take-length, drop-append-seam, drop-append-add}
-use Rattle.leaves.specs.Choice.{if_then_else_, if-false, or-left, or-right}
+use lib.Seq.{take-at, take-length, drop-append-seam, drop-append-add, append-snoc}
+use Rattle.leaves.specs.Choice.{if_then_else_, if-false, and-left, and-right}
 use Rattle.leaves.specs.Class.{blank}
-use Rattle.leaves.specs.Octets.{has, before, all, sameList}
+use Rattle.leaves.specs.Octets.{has, all, sameList}
 use Rattle.maps.specs.declared.Field.{Field}
 use Rattle.folds.specs.Rule.{Ruling, plain, trimmedAt, endsBlock, split, rule4}
 use Rattle.folds.specs.declared.Change.the-variants.{Put}
 use Rattle.reader.specs.Reading.{Rules, Found, Reading, ruled, lined, fed}
 use Rattle.reader.specs.declared.Answer.the-variants.{More, Blank}
 use Rattle.reader.proofs.OctetSteps.{opened}
-use Rattle.writes.specs.Written.{crlf, pairLine}
-use Rattle.tidy.proofs.CleanTexts.{has-append, no-fold, no-end, CleanPair}
+use Rattle.lookups.specs.Said.{Pair}
+use Rattle.writes.specs.Written.{crlf, pairLine, pairLines}
+use Rattle.tidy.specs.Clean.{cleanPair, cleanPairs}
+use Rattle.tidy.proofs.CleanTexts.{has-append, before-append, no-fold, no-end, CleanPair, clean-pair}
 use Rattle.tidy.proofs.LineReads.{ended, line-read, closes, goes-on}
 
 -- the field of a pair whose line stands in the block at n
@@ -28,11 +29,6 @@ fieldAt n k v = record { key = trimmedAt n k; value = trimmedAt (n + (length k +
 -- what is found, with one field more
 abbrev pub with : Found → Field → Found
 with f x = record { awaits = f .awaits; status = f .status; fields = f .fields ++ x ∷ []; store = f .store }
-
-before-append : (c : ℕ) (a b : List ℕ) → has c a ≡ false → before c (a ++ c ∷ b) ≡ length a
-unfolding has before
-before-append c [] b e = rw (eq-eqb c c refl)
-before-append c (x ∷ xs) b e = rw (or-left (eqb x c) (has c xs) e) (ap suc (before-append c xs b (or-right (eqb x c) (has c xs) e)))
 
 split-pair : (n : ℕ) (k w : List ℕ) (fields mark : ℕ) → has 58 k ≡ false → fields < 256
     → split n (k ++ 58 ∷ w) fields mark ≡ plain (Put fields (record { key = trimmedAt n k; value = trimmedAt (n + (length k + 1)) w }) mark)
@@ -81,3 +77,41 @@ module _ (R : Rules) (P : List ℕ) (f : Found) where
       → fed R (opened R (length P) f P) crlf ≡ record { block = P ++ crlf; line = length (P ++ crlf); found = f; answer = Blank }
   unfolding fed has
   blank-read h = line-read R P f [] [] refl h ∙ closes R P f crlf (blank-ends (R .quirks))
+
+-- the fields of pairs whose lines stand in the block from n on
+abbrev pub fieldsAt : ℕ → List Pair → List Field
+fieldsAt n [] = []
+fieldsAt n (p ∷ ps) = fieldAt n (p .key) (p .value) ∷ fieldsAt (n + length (pairLine (p .key) (p .value))) ps
+
+module _ (R : Rules) where
+  -- the blank line ended the block b, and the lines before it gave f
+  abbrev pub blanked : List ℕ → Found → Reading
+  blanked b f = record { block = b; line = length b; found = f; answer = Blank }
+
+  abbrev pub plus : Found → List Field → Found
+  plus f xs = record { awaits = f .awaits; status = f .status; fields = f .fields ++ xs; store = f .store }
+
+  abbrev Read : List Pair → Type 0
+  Read ps =
+      (P : List ℕ) (f : Found) → f .awaits ≡ false → cleanPairs ps ≡ true → length (f .fields) + length ps ≤ 256
+      → length (P ++ (pairLines ps ++ crlf)) ≤ R .limit
+      → fed R (opened R (length P) f P) (pairLines ps ++ crlf) ≡ blanked (P ++ (pairLines ps ++ crlf)) (plus f (fieldsAt (length P) ps))
+
+  read-more : (k v : List ℕ) (ps : List Pair) → Read ps → Read (record { key = k; value = v } ∷ ps)
+  unfolding cleanPairs cleanPair pairLines
+  read-more [] v ps ih P f a c h z = absurd (false≢true c)
+  read-more (k ∷ ks) v ps ih P f a c h z =
+      let L = pairLine (k ∷ ks) v in
+      let x = fieldAt (length P) (k ∷ ks) v in
+      let C = clean-pair k ks v (and-left (cleanPair (record { key = k ∷ ks; value = v })) (cleanPairs ps) c) in
+      let d : P ++ ((L ++ pairLines ps) ++ crlf) ≡ (P ++ L) ++ (pairLines ps ++ crlf) = simp append-assoc in
+      let y : length ((P ++ L) ++ (pairLines ps ++ crlf)) ≤ R .limit = rw d at z in
+      ap (fed R (opened R (length P) f P)) (append-assoc L (pairLines ps) crlf) ∙
+      pair-read R P f k ks v (pairLines ps ++ crlf) C a (omega arith) (omega (arith, length-append (P ++ L) (pairLines ps ++ crlf))) ∙
+      ih (P ++ L) (with f x) a (and-right (cleanPair (record { key = k ∷ ks; value = v })) (cleanPairs ps) c) (omega (arith, length-append (f .fields) (x ∷ []))) y ∙
+      rw (← d, append-snoc (f .fields) x (fieldsAt (length (P ++ L)) ps), length-append P L)
+
+  pub pairs-read : (ps : List Pair) → Read ps
+  unfolding pairLines
+  pairs-read [] P f a c h z = blank-read R P f z ∙ rw (append-nil (f .fields))
+  pairs-read (p ∷ ps) P f a c h z = read-more (p .key) (p .value) ps (pairs-read ps) P f a c h z

@@ -1,31 +1,21 @@
--- The fields of clean pairs, read from their lines, say the pairs. Assumes nothing.
+-- The fields that were read from the lines of clean pairs say the pairs. Assumes nothing.
 use mathlib.Core.Path.{_≡_, refl, sym, _∙_, ap}
 use mathlib.Core.Bool.{true, false, false≢true}
-use mathlib.Core.List.{List, [], _∷_, _++_, map, append-assoc, append-nil}
-use Prim.Native.Nat.{ℕ, _+_, _≤_}
+use mathlib.Core.List.{List, [], _∷_, _++_, map, append-assoc}
+use Prim.Native.Nat.{ℕ, _+_}
 use native.Mathlib.Omega.{arith}
 use lib.ListN.{length, length-append}
-use lib.Seq.{append-snoc}
 use Rattle.leaves.specs.Choice.{and-left, and-right}
 use Rattle.leaves.specs.Class.{blank}
 use Rattle.leaves.specs.Octets.{has, all}
 use Rattle.maps.specs.Places.{at}
-use Rattle.maps.specs.declared.Field.{Field}
 use Rattle.folds.specs.Rule.{trimmedAt}
-use Rattle.reader.specs.Reading.{Rules, Found, Reading, fed}
-use Rattle.reader.specs.declared.Answer.the-variants.{Blank}
-use Rattle.reader.proofs.OctetSteps.{opened}
 use Rattle.lookups.specs.Said.{Pair, pairAt}
 use Rattle.writes.specs.Written.{crlf, pairLine, pairLines}
 use Rattle.tidy.specs.Clean.{cleanPair, cleanPairs}
 use Rattle.tidy.proofs.TrimTexts.{trim-blank, trim-append, trimmed-in}
 use Rattle.tidy.proofs.CleanTexts.{CleanPair, clean-pair}
-use Rattle.tidy.proofs.PairReads.{fieldAt, with, pair-read, blank-read}
-
--- the fields of pairs whose lines stand in the block from n on
-abbrev pub fieldsAt : ℕ → List Pair → List Field
-fieldsAt n [] = []
-fieldsAt n (p ∷ ps) = fieldAt n (p .key) (p .value) ∷ fieldsAt (n + length (pairLine (p .key) (p .value))) ps
+use Rattle.tidy.proofs.PairReads.{fieldAt, fieldsAt}
 
 pub space-blank : blank 32 ≡ true
 unfolding blank has
@@ -80,36 +70,3 @@ pub pairs-said : (ps : List Pair) → Say ps
 unfolding pairLines
 pairs-said [] P q s n e c = refl
 pairs-said (p ∷ ps) P q s n e c = say-more (p .key) (p .value) ps (pairs-said ps) P q s n e c
-
-module _ (R : Rules) where
-  -- the blank line ended the block b, and the lines before it gave f
-  abbrev pub blanked : List ℕ → Found → Reading
-  blanked b f = record { block = b; line = length b; found = f; answer = Blank }
-
-  abbrev pub plus : Found → List Field → Found
-  plus f xs = record { awaits = f .awaits; status = f .status; fields = f .fields ++ xs; store = f .store }
-
-  abbrev Read : List Pair → Type 0
-  Read ps =
-      (P : List ℕ) (f : Found) → f .awaits ≡ false → cleanPairs ps ≡ true → length (f .fields) + length ps ≤ 256
-      → length (P ++ (pairLines ps ++ crlf)) ≤ R .limit
-      → fed R (opened R (length P) f P) (pairLines ps ++ crlf) ≡ blanked (P ++ (pairLines ps ++ crlf)) (plus f (fieldsAt (length P) ps))
-
-  read-more : (k v : List ℕ) (ps : List Pair) → Read ps → Read (record { key = k; value = v } ∷ ps)
-  unfolding cleanPairs cleanPair pairLines
-  read-more [] v ps ih P f a c h z = absurd (false≢true c)
-  read-more (k ∷ ks) v ps ih P f a c h z =
-      let L = pairLine (k ∷ ks) v in
-      let x = fieldAt (length P) (k ∷ ks) v in
-      let C = clean-pair k ks v (and-left (cleanPair (record { key = k ∷ ks; value = v })) (cleanPairs ps) c) in
-      let d : P ++ ((L ++ pairLines ps) ++ crlf) ≡ (P ++ L) ++ (pairLines ps ++ crlf) = simp append-assoc in
-      let y : length ((P ++ L) ++ (pairLines ps ++ crlf)) ≤ R .limit = rw d at z in
-      ap (fed R (opened R (length P) f P)) (append-assoc L (pairLines ps) crlf) ∙
-      pair-read R P f k ks v (pairLines ps ++ crlf) C a (omega arith) (omega (arith, length-append (P ++ L) (pairLines ps ++ crlf))) ∙
-      ih (P ++ L) (with f x) a (and-right (cleanPair (record { key = k ∷ ks; value = v })) (cleanPairs ps) c) (omega (arith, length-append (f .fields) (x ∷ []))) y ∙
-      rw (← d, append-snoc (f .fields) x (fieldsAt (length (P ++ L)) ps), length-append P L)
-
-  pub pairs-read : (ps : List Pair) → Read ps
-  unfolding pairLines
-  pairs-read [] P f a c h z = blank-read R P f z ∙ rw (append-nil (f .fields))
-  pairs-read (p ∷ ps) P f a c h z = read-more (p .key) (p .value) ps (pairs-read ps) P f a c h z

@@ -18,7 +18,8 @@ use Rattle.tidy.specs.Clean.{neat, cleanPairs, cleanStatus, clean, expec
 use Rattle.tidy.proofs.TrimTexts.{trim-append, trimmed-in, first-solid}
 use Rattle.tidy.proofs.CleanTexts.{neat-lf, neat-trim, no-end}
 use Rattle.tidy.proofs.LineReads.{line-read, goes-on}
-use Rattle.tidy.proofs.PairSays.{crlf-blank, fieldsAt, pairs-said, blanked, plus, pairs-read}
+use Rattle.tidy.proofs.PairReads.{fieldsAt, blanked, plus, pairs-read}
+use Rattle.tidy.proofs.PairSays.{crlf-blank, pairs-said}
 
 said-same : (st st′ : Option (List ℕ)) (ps ps′ : List Pair) → st ≡ st′ → ps ≡ ps′ → _≡_ {A = Said} (record { status = st; pairs = ps }) (record { status = st′; pairs = ps′ })
 said-same st st′ ps ps′ e g = rw (e, g)
@@ -29,6 +30,11 @@ nothing a = record { awaits = a; status = Absent; fields = []; store = [] }
 
 abbrev stated : List ℕ → Found
 stated l = record { awaits = false; status = At (trimmedAt 0 (l ++ crlf)); fields = []; store = [] }
+
+-- octets in two pieces
+fed-append : (R : Rules) (r : Reading) (xs ys : List ℕ) → fed R r (xs ++ ys) ≡ fed R (fed R r xs) ys
+unfolding fed
+fed-append R r xs ys = foldl-append (step R) r xs ys
 
 module _ (R : Rules) where
   status-read : (x : ℕ) (xs w : List ℕ) → neat (x ∷ xs) ≡ true → length (x ∷ xs ++ crlf) ≤ R .limit
@@ -65,24 +71,11 @@ module _ (R : Rules) where
       status-back (m .status) (m .pairs) (and-left (cleanStatus (m .status)) (cleanPairs (m .pairs)) c)
       (and-right (cleanStatus (m .status)) (cleanPairs (m .pairs)) c) h z
 
-  -- pieces fed one after the other
-  abbrev pub fedPieces : Reading → List (List ℕ) → Reading
-  fedPieces r [] = r
-  fedPieces r (p ∷ ps) = fedPieces (fed R r p) ps
-
-  abbrev pub joined : List (List ℕ) → List ℕ
-  joined [] = []
-  joined (p ∷ ps) = p ++ joined ps
-
-  pub pieces : (r : Reading) (ps : List (List ℕ)) → fedPieces r ps ≡ fed R r (joined ps)
-  unfolding fed
-  pieces r [] = refl
-  pieces r (p ∷ ps) = pieces (fed R r p) ps ∙ sym (foldl-append (step R) r p (joined ps))
-
   -- the same, the block cut anywhere
   pub back-cut : (m : Said) → clean m ≡ true → length (m .pairs) ≤ 256 → length (rebuilt m) ≤ R .limit
-      → (ps : List (List ℕ)) → joined ps ≡ rebuilt m → Gives (rebuilt m) m (fedPieces (begun (expects (m .status))) ps)
-  back-cut m c h z ps e = rw (pieces (begun (expects (m .status))) ps, e) (back m c h z)
+      → (xs ys : List ℕ) → xs ++ ys ≡ rebuilt m → Gives (rebuilt m) m (fed R (fed R (begun (expects (m .status))) xs) ys)
+  back-cut m c h z xs ys e =
+      rw (← fed-append R (begun (expects (m .status))) xs ys, e) (back m c h z)
 
 pub rebuilt-back : (m m′ : Said) → clean m ≡ true → clean m′ ≡ true → length (m .pairs) ≤ 256 → length (m′ .pairs) ≤ 256
     → expects (m .status) ≡ expects (m′ .status) → rebuilt m ≡ rebuilt m′ → m ≡ m′

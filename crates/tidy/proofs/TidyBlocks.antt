@@ -104,6 +104,12 @@ tidy-exactly R m c h z b g = (
   λ e. ap (tidy R (expects (m .status))) e ∙ clean-tidy R m c h z,
 )
 
+-- two tests that pass together are the same
+pub both : (p q : Bool) → (p ≡ true → q ≡ true) → (q ≡ true → p ≡ true) → p ≡ q
+both true q f g = sym (f refl)
+both false true f g = g refl
+both false false f g = refl
+
 -- neither quirks nor the store's room matter
 pub tidy-flags : (R R′ : Rules) → R .limit ≡ R′ .limit → (status : Bool) (b : List ℕ) → tidy R status b ≡ tidy R′ status b
 tidy-flags R R′ e status b = both (tidy R status b) (tidy R′ status b) (carry R R′ e) (carry R′ R (sym e))
@@ -112,8 +118,3 @@ tidy-flags R R′ e status b = both (tidy R status b) (tidy R′ status b) (carr
     carry R R′ e t =
         let m = said (fed R (begun status) b) in
         rebuilds-tidy R′ status b m (subst (λ (n : ℕ). Rebuilds n status b m) e (tidy-rebuilds R status b t))
-
-    both : (p q : Bool) → (p ≡ true → q ≡ true) → (q ≡ true → p ≡ true) → p ≡ q
-    both true q f g = sym (f refl)
-    both false true f g = g refl
-    both false false f g = refl

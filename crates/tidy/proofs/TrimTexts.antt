@@ -57,26 +57,21 @@ unfolding trimStart leading trimEnd
 start-append [] w e = rw (end-none w e) (omega arith)
 start-append (x ∷ xs) w e = rw (end-append xs w e) (start-step (blank x) (leading (xs ++ w)) (leading xs) (trimEnd xs) (rw (end-append xs w e) at (start-append xs w e)))
 
+-- a part of the front is a part of the whole
+pub part-front : (l q : List ℕ) (a e : ℕ) → a ≤ e → e ≤ length l → part a e (l ++ q) ≡ part a e l
+part-front l q a e h k =
+    ap (take (e - a)) (drop-append-le a l q (omega arith)) ∙ take-append-le (e - a) (drop a l) q (omega (arith, length-drop a l))
+
 -- the trimmed text of a line that stands in a longer text, where the line's ends say
-module _ (l q : List ℕ) where
-  start-in : trimStart l ≤ length l
-  start-in = omega (arith, start-within l, end-within l)
-
-  reach : trimEnd l - trimStart l ≤ length (drop (trimStart l) l)
-  reach = omega (arith, length-drop (trimStart l) l, end-within l)
-
-  in-front : take (trimEnd l - trimStart l) (drop (trimStart l) (l ++ q)) ≡ trimmed l
-  in-front =
-      ap (take (trimEnd l - trimStart l)) (drop-append-le (trimStart l) l q start-in) ∙
-      take-append-le (trimEnd l - trimStart l) (drop (trimStart l) l) q reach
-
-  pub trimmed-in : (p : List ℕ) (n : ℕ) → length p ≡ n → part (n + trimStart l) (n + trimEnd l) (p ++ (l ++ q)) ≡ trimmed l
-  trimmed-in p n e =
-      let z : n + trimEnd l - (n + trimStart l) ≡ trimEnd l - trimStart l = omega arith in
-      rw (z, ← e) (ap (take (trimEnd l - trimStart l)) (drop-append-add p (l ++ q) (trimStart l)) ∙ in-front)
+pub trimmed-in : (l q p : List ℕ) (n : ℕ) → length p ≡ n → part (n + trimStart l) (n + trimEnd l) (p ++ (l ++ q)) ≡ trimmed l
+trimmed-in l q p n e =
+    let z : n + trimEnd l - (n + trimStart l) ≡ trimEnd l - trimStart l = omega arith in
+    rw (z, ← e)
+    (ap (take (trimEnd l - trimStart l)) (drop-append-add p (l ++ q) (trimStart l)) ∙
+    part-front l q (trimStart l) (trimEnd l) (start-within l) (end-within l))
 
 pub trim-append : (l w : List ℕ) → all blank w ≡ true → trimmed (l ++ w) ≡ trimmed l
-trim-append l w e = rw (end-append l w e, start-append l w e) (in-front l w)
+trim-append l w e = rw (end-append l w e, start-append l w e) (part-front l w (trimStart l) (trimEnd l) (start-within l) (end-within l))
 
 -- a text that trimming leaves begins with no blank
 pub first-solid : (x : ℕ) (xs : List ℕ) → trimmed (x ∷ xs) ≡ x ∷ xs → blank x ≡ false

@@ -19,7 +19,7 @@ use Rattle.reader.specs.declared.Answer.the-variants.{More, Blank, Input, Refus
 use Rattle.lookups.specs.Said.{Pair, Said, pairAt, statusAt}
 use Rattle.writes.specs.Written.{rebuilt}
 
--- "without CR, LF or outer blanks": trimming takes nothing off
+-- "without CR, LF or outer blanks": trimming takes nothing away
 unfoldable pub neat : List ℕ → Bool
 neat l = not (has 13 l) && (not (has 10 l) && sameList (trimmed l) l)
 

@@ -1,12 +1,14 @@
 -- `reader::feed_lines` meets its contract. Assumes nothing.
 use borrow.Author.Needs.{needs}
 use native.Mathlib.Omega.{arith}
-use mathlib.Core.Path.{refl, sym, _∙_}
+use mathlib.Core.Path.{refl, sym, ap, _∙_}
+use borrow.Author.Tests.{eqb-true}
+use Rattle.leaves.specs.Octets.{before}
 use mathlib.Core.Bool.{Bool, true, false}
 use Prim.Native.Nat.{ℕ, _+_, _-_}
 use lib.ListN.{length, length-drop, length-map}
 use Rattle.leaves.proofs.LineLaws.{line-some}
-use Rattle.reader.proofs.FeedLaws.{Feeding, feed-start, feed-more, feed-full, held-line, feed-blank, feed-nothing, feed-head, feed-put, feed-stop, feed-end}
+use Rattle.reader.proofs.FeedLaws.{line-inside, line-whole, line-at, Feeding, feed-start, feed-more, feed-full, held-line, feed-blank, feed-nothing, feed-head, feed-put, feed-stop, feed-end}
 use Rattle.reader.proofs.LineSteps.{fold-ready, puts, under, is-after}
 use Rattle.reader.proofs.feed_lines.Statement.{statement}
 use Rattle.reader.proofs.feed_lines.Tie as tie
@@ -179,24 +181,37 @@ last-of-requires c κs = search needs
 
 mul-f : tie.Need-mul-f Inv-loop μ-loop
 mul-f c =
-    let l = c .before .before .before .before .before .before .before .before .before .before .before .before .before in
+    let l = c .before .before .before .before .before .before .before .before .before .before .before .before .before .before in
     omega (arith, c .last-of .ensures, l .loop .inv .held .few)
 
 array-copy-out-f : tie.Need-array-copy-out-f Inv-loop μ-loop
 array-copy-out-f c =
-    let l = c .before .before .before .before .before .before .before .before .before .before .before .before .before in
+    let l = c .before .before .before .before .before .before .before .before .before .before .before .before .before .before in
     omega (arith, c .last-of .ensures, l .loop .inv .held .few)
 
-rule-four-requires : tie.Need-rule-four-requires Inv-loop μ-loop
-rule-four-requires c κs =
+colon-of-requires : tie.Need-colon-of-requires Inv-loop μ-loop
+colon-of-requires c κs =
+    let w = c .before .before .before .before .before in
+    let k = w .before .before .before .before in
+    let l = k .before .before .before in
+    let t = rw (w .took3 .given .1) at (k .take-line .ensures) in
+    let g = k .before .before .loop-test .taken in
+    record {
+      inside = line-inside (l .loop .inv) g _ _ (k .take-line .kept .1 .1 .0) t;
+      same = λ e. line-whole (l .loop .inv) g _ _ (k .take-line .kept .1 .1 .0) t (eqb-true _ _ e);
+    }
+
+line-change-requires : tie.Need-line-change-requires Inv-loop μ-loop
+line-change-requires c κs =
     let o = c .before .before .before in
-    let e = o .before .before in
+    let e = o .before .before .before in
     let w = e .before .before .before .before in
     let k = w .before .before .before .before in
     let l = k .before .before .before in
     let t = rw (w .took3 .given .1) at (k .take-line .ensures) in
     let g = k .before .before .loop-test .taken in
-    fold-ready (held-line (l .loop .inv) g _ _ (k .take-line .kept .1 .1 .0) t) (l .loop .awaits) _ _ (o .last-of .ensures)
+    let h = held-line (l .loop .inv) g _ _ (k .take-line .kept .1 .1 .0) t in
+    (fold-ready h (l .loop .awaits) _ _ (o .last-of .ensures), o .before .colon-of .ensures ∙ ap (before 58) (sym (line-at (l .loop .inv) g _ _ (k .take-line .kept .1 .1 .0) t)))
 
 enum-told : tie.Need-enum-told Inv-loop μ-loop
 enum-told c = search needs
@@ -205,7 +220,7 @@ loop-less-4 : tie.Need-loop-less-4 Inv-loop μ-loop
 loop-less-4 c =
     let r = c .before .before .before .before in
     let o = r .before .before .before .before in
-    let e = o .before .before in
+    let e = o .before .before .before in
     let w = e .before .before .before .before in
     let k = w .before .before .before .before in
     let l = k .before .before .before in
@@ -218,13 +233,13 @@ loop-again-4 : tie.Need-loop-again-4 Inv-loop μ-loop
 loop-again-4 c =
     let r = c .before .before .before .before in
     let o = r .before .before .before .before in
-    let e = o .before .before in
+    let e = o .before .before .before in
     let w = e .before .before .before .before in
     let k = w .before .before .before .before in
     let l = k .before .before .before in
     let t = rw (w .took3 .given .1) at (k .take-line .ensures) in
     let g = k .before .before .loop-test .taken in
-    feed-nothing (l .loop .inv) g _ _ (k .take-line .kept .1 .1 .0) t (sym (e .ends-block .ensures) ∙ o .before .if1 .left) _ _ (o .last-of .ensures) _ (r .rule-four .kept .1 .0) (rw (c .enum-told .given .1) at (r .rule-four .ensures))
+    feed-nothing (l .loop .inv) g _ _ (k .take-line .kept .1 .1 .0) t (sym (e .ends-block .ensures) ∙ o .before .before .if1 .left) _ _ (o .last-of .ensures) _ (r .line-change .kept .1 .1 .0) (rw (c .enum-told .given .1) at (r .line-change .ensures))
 
 enum-known-change : tie.Need-enum-known-change Inv-loop μ-loop
 enum-known-change c = search needs
@@ -233,7 +248,7 @@ loop-less-5 : tie.Need-loop-less-5 Inv-loop μ-loop
 loop-less-5 c =
     let r = c .before .before .before .before .before in
     let o = r .before .before .before .before in
-    let e = o .before .before in
+    let e = o .before .before .before in
     let w = e .before .before .before .before in
     let k = w .before .before .before .before in
     let l = k .before .before .before in
@@ -246,13 +261,13 @@ loop-again-5 : tie.Need-loop-again-5 Inv-loop μ-loop
 loop-again-5 c =
     let r = c .before .before .before .before .before in
     let o = r .before .before .before .before in
-    let e = o .before .before in
+    let e = o .before .before .before in
     let w = e .before .before .before .before in
     let k = w .before .before .before .before in
     let l = k .before .before .before in
     let t = rw (w .took3 .given .1) at (k .take-line .ensures) in
     let g = k .before .before .loop-test .taken in
-    feed-head (l .loop .inv) g _ _ (k .take-line .kept .1 .1 .0) t (sym (e .ends-block .ensures) ∙ o .before .if1 .left) _ _ (o .last-of .ensures) _ (r .rule-four .kept .1 .0) _ (rw (c .before .change .given .1) at (r .rule-four .ensures))
+    feed-head (l .loop .inv) g _ _ (k .take-line .kept .1 .1 .0) t (sym (e .ends-block .ensures) ∙ o .before .before .if1 .left) _ _ (o .last-of .ensures) _ (r .line-change .kept .1 .1 .0) _ (rw (c .before .change .given .1) at (r .line-change .ensures))
 
 enum-known-change-2 : tie.Need-enum-known-change-2 Inv-loop μ-loop
 enum-known-change-2 c = search needs
@@ -261,46 +276,46 @@ mul-t : tie.Need-mul-t Inv-loop μ-loop
 mul-t c =
     let r = c .before .before .before .before .before in
     let o = r .before .before .before .before in
-    let e = o .before .before in
+    let e = o .before .before .before in
     let w = e .before .before .before .before in
     let k = w .before .before .before .before in
     let l = k .before .before .before in
     let t = rw (w .took3 .given .1) at (k .take-line .ensures) in
     let g = k .before .before .loop-test .taken in
-    let q = puts (held-line (l .loop .inv) g _ _ (k .take-line .kept .1 .1 .0) t) (l .loop .awaits) _ _ (o .last-of .ensures) _ (r .rule-four .kept .1 .0) _ _ _ (rw (c .before .change2 .given .1) at (r .rule-four .ensures)) in
+    let q = puts (held-line (l .loop .inv) g _ _ (k .take-line .kept .1 .1 .0) t) (l .loop .awaits) _ _ (o .last-of .ensures) _ (r .line-change .kept .1 .1 .0) _ _ _ (rw (c .before .change2 .given .1) at (r .line-change .ensures)) in
     omega (arith, q .few)
 
 array-set-from-t : tie.Need-array-set-from-t Inv-loop μ-loop
 array-set-from-t c =
     let r = c .before .before .before .before .before in
     let o = r .before .before .before .before in
-    let e = o .before .before in
+    let e = o .before .before .before in
     let w = e .before .before .before .before in
     let k = w .before .before .before .before in
     let l = k .before .before .before in
     let t = rw (w .took3 .given .1) at (k .take-line .ensures) in
     let g = k .before .before .loop-test .taken in
-    let q = puts (held-line (l .loop .inv) g _ _ (k .take-line .kept .1 .1 .0) t) (l .loop .awaits) _ _ (o .last-of .ensures) _ (r .rule-four .kept .1 .0) _ _ _ (rw (c .before .change2 .given .1) at (r .rule-four .ensures)) in
+    let q = puts (held-line (l .loop .inv) g _ _ (k .take-line .kept .1 .1 .0) t) (l .loop .awaits) _ _ (o .last-of .ensures) _ (r .line-change .kept .1 .1 .0) _ _ _ (rw (c .before .change2 .given .1) at (r .line-change .ensures)) in
     omega (arith, q .few)
 
 add-n : tie.Need-add-n Inv-loop μ-loop
 add-n c =
     let r = c .before .before .before .before .before in
     let o = r .before .before .before .before in
-    let e = o .before .before in
+    let e = o .before .before .before in
     let w = e .before .before .before .before in
     let k = w .before .before .before .before in
     let l = k .before .before .before in
     let t = rw (w .took3 .given .1) at (k .take-line .ensures) in
     let g = k .before .before .loop-test .taken in
-    let q = puts (held-line (l .loop .inv) g _ _ (k .take-line .kept .1 .1 .0) t) (l .loop .awaits) _ _ (o .last-of .ensures) _ (r .rule-four .kept .1 .0) _ _ _ (rw (c .before .change2 .given .1) at (r .rule-four .ensures)) in
+    let q = puts (held-line (l .loop .inv) g _ _ (k .take-line .kept .1 .1 .0) t) (l .loop .awaits) _ _ (o .last-of .ensures) _ (r .line-change .kept .1 .1 .0) _ _ _ (rw (c .before .change2 .given .1) at (r .line-change .ensures)) in
     omega (arith, q .few)
 
 loop-less-6 : tie.Need-loop-less-6 Inv-loop μ-loop
 loop-less-6 c =
     let r = c .before .before .before .before .before in
     let o = r .before .before .before .before in
-    let e = o .before .before in
+    let e = o .before .before .before in
     let w = e .before .before .before .before in
     let k = w .before .before .before .before in
     let l = k .before .before .before in
@@ -313,13 +328,13 @@ loop-again-6 : tie.Need-loop-again-6 Inv-loop μ-loop
 loop-again-6 c =
     let r = c .before .before .before .before .before in
     let o = r .before .before .before .before in
-    let e = o .before .before in
+    let e = o .before .before .before in
     let w = e .before .before .before .before in
     let k = w .before .before .before .before in
     let l = k .before .before .before in
     let t = rw (w .took3 .given .1) at (k .take-line .ensures) in
     let g = k .before .before .loop-test .taken in
-    feed-put (l .loop .inv) g _ _ (k .take-line .kept .1 .1 .0) t (sym (e .ends-block .ensures) ∙ o .before .if1 .left) _ _ (o .last-of .ensures) _ (r .rule-four .kept .1 .0) _ _ _ (rw (c .before .change2 .given .1) at (r .rule-four .ensures))
+    feed-put (l .loop .inv) g _ _ (k .take-line .kept .1 .1 .0) t (sym (e .ends-block .ensures) ∙ o .before .before .if1 .left) _ _ (o .last-of .ensures) _ (r .line-change .kept .1 .1 .0) _ _ _ (rw (c .before .change2 .given .1) at (r .line-change .ensures))
 
 enum-known-change-3 : tie.Need-enum-known-change-3 Inv-loop μ-loop
 enum-known-change-3 c = search needs
@@ -328,7 +343,7 @@ loop-less-7 : tie.Need-loop-less-7 Inv-loop μ-loop
 loop-less-7 c =
     let r = c .before .before .before .before .before in
     let o = r .before .before .before .before in
-    let e = o .before .before in
+    let e = o .before .before .before in
     let w = e .before .before .before .before in
     let k = w .before .before .before .before in
     let l = k .before .before .before in
@@ -341,13 +356,13 @@ loop-again-7 : tie.Need-loop-again-7 Inv-loop μ-loop
 loop-again-7 c =
     let r = c .before .before .before .before .before in
     let o = r .before .before .before .before in
-    let e = o .before .before in
+    let e = o .before .before .before in
     let w = e .before .before .before .before in
     let k = w .before .before .before .before in
     let l = k .before .before .before in
     let t = rw (w .took3 .given .1) at (k .take-line .ensures) in
     let g = k .before .before .loop-test .taken in
-    feed-stop (l .loop .inv) g _ _ (k .take-line .kept .1 .1 .0) t (sym (e .ends-block .ensures) ∙ o .before .if1 .left) _ _ (o .last-of .ensures) _ (r .rule-four .kept .1 .0) _ (rw (c .before .change3 .given .1) at (r .rule-four .ensures))
+    feed-stop (l .loop .inv) g _ _ (k .take-line .kept .1 .1 .0) t (sym (e .ends-block .ensures) ∙ o .before .before .if1 .left) _ _ (o .last-of .ensures) _ (r .line-change .kept .1 .1 .0) _ (rw (c .before .change3 .given .1) at (r .line-change .ensures))
 
 head-after-requires : tie.Need-head-after-requires Inv-loop μ-loop
 head-after-requires c κs = search needs
@@ -391,10 +406,11 @@ feed-lines-spec =
     ends-block-requires
     loop-less-3
     loop-again-3
+    colon-of-requires
     last-of-requires
     mul-f
     array-copy-out-f
-    rule-four-requires
+    line-change-requires
     enum-told
     loop-less-4
     loop-again-4

@@ -1,0 +1,5 @@
+pub mod KeptLaws
+pub mod AgainLaws
+pub mod MadeSays
+pub mod EditSays
+pub mod LookupSays

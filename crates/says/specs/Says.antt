@@ -1,0 +1,47 @@
+-- The edits and the lookups at the level of what a map says. Assumes nothing.
+use mathlib.Core.List.{List, [], _∷_, _++_}
+use mathlib.Core.Option.{Option, none, some}
+use Prim.Native.Nat.{ℕ}
+use lib.ListN.{drop}
+use Rattle.maps.specs.Good.{checkedDone}
+use Rattle.maps.specs.Maps.{Given}
+use Rattle.maps.specs.declared.Checked.{Checked}
+use Rattle.lookups.specs.Said.{Pair, Said, called, saying}
+use Rattle.lookups.specs.Lookups.{seeking}
+use Rattle.lookups.specs.declared.Found.{Found}
+use Rattle.edits.specs.Fields.{keeps, replaced}
+use Rattle.edits.specs.declared.Edited.{Edited}
+
+-- a key and a value as a pair
+abbrev pub pair : List ℕ → List ℕ → Pair
+pair k v = record { key = k; value = v }
+
+-- "Set replaces the first match with the new key and value, drops later ones, or appends."
+abbrev pub setSaid : List ℕ → List ℕ → Said → Said
+setSaid k v x = record { status = x .status; pairs = replaced (called k) (pair k v) (x .pairs) }
+
+abbrev pub appendSaid : List ℕ → List ℕ → Said → Said
+appendSaid k v x = record { status = x .status; pairs = x .pairs ++ (pair k v ∷ []) }
+
+-- "Remove drops all matches."
+abbrev pub removeSaid : List ℕ → Said → Said
+removeSaid k x = record { status = x .status; pairs = keeps (called k) (x .pairs) }
+
+abbrev pub statusSaid : List ℕ → Said → Said
+statusSaid t x = record { status = some t; pairs = x .pairs }
+
+-- "A lookup from a given field number on gives missing or a field number."
+abbrev pub findSaid : List ℕ → ℕ → Said → Found
+findSaid name from x = seeking (called name) from (drop from (x .pairs))
+
+-- the octets of a status; none if it is absent
+abbrev pub textOf : Option (List ℕ) → List ℕ
+textOf none = []
+textOf (some t) = t
+
+-- what the map of an edit says then, and what the next call's first checks say of it
+abbrev pub after : Given Edited → Said
+after g = saying (g .result .map) (g .block) (g .store)
+
+abbrev pub usable : Given Edited → Checked
+usable g = checkedDone (g .result .map) (g .block) (g .store)
