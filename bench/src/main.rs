@@ -2,6 +2,7 @@
 //!
 //!     bench                  a line for each input, cut and side: best nanoseconds of one reading
 //!     bench INPUT CUT SIDE N  N readings of one side, for callgrind; SIDE is rust, ours or none
+//!     bench CALL SIDE N       N of the other calls on the map of the first input
 use oracle::warc::header::HeaderMap;
 use std::hint::black_box;
 use std::io::{self, BufRead, Read, Seek, SeekFrom};
@@ -11,7 +12,30 @@ unsafe extern "C" {
     fn speed_read(
         pieces: usize, cut: usize, block: *mut u8, block_len: usize, store: *mut u8, store_len: usize, text: *const u8, text_len: usize,
     ) -> usize;
+    fn speed_find(
+        times: usize, block: *mut u8, block_len: usize, store: *mut u8, store_len: usize, text: *const u8, text_len: usize, name: *const u8,
+        name_len: usize,
+    ) -> usize;
+    fn speed_set(
+        times: usize, block: *mut u8, block_len: usize, store: *mut u8, store_len: usize, text: *const u8, text_len: usize, key: *const u8,
+        key_len: usize, value: *const u8, value_len: usize,
+    ) -> usize;
+    fn speed_append(
+        times: usize, block: *mut u8, block_len: usize, store: *mut u8, store_len: usize, text: *const u8, text_len: usize, key: *const u8,
+        key_len: usize, value: *const u8, value_len: usize,
+    ) -> usize;
+    fn speed_write(
+        times: usize, rebuilt: bool, block: *mut u8, block_len: usize, store: *mut u8, store_len: usize, text: *const u8, text_len: usize,
+        out: *mut u8, out_len: usize,
+    ) -> usize;
 }
+
+const NAMES: [&str; 10] = [
+    "Date", "etag", "Content-Type", "content-length", "X-Request-ID", "Accept-Ranges", "Content-Range", "Transfer-Encoding", "Location", "WARC-Type",
+];
+const KEY: &[u8] = b"Content-Type";
+const NEW: &[u8] = b"X-Checked";
+const VALUE: &[u8] = b"text/plain; charset=utf-8";
 
 /// A text handed out in pieces of `cut` octets.
 struct Cut {
@@ -110,6 +134,50 @@ impl Ours {
     }
 }
 
+impl Ours {
+    /// One of the calls on the map of a text, so many times.
+    fn call(&mut self, what: &str, times: usize, text: &[u8]) {
+        let (b, s) = (&mut self.block, &mut self.store);
+        let (bp, bl, sp, sl, tp, tl) = (b.as_mut_ptr(), b.len(), s.as_mut_ptr(), s.len(), text.as_ptr(), text.len());
+        let (v, vl) = (VALUE.as_ptr(), VALUE.len());
+        let mut out = [0u8; 4096];
+        unsafe {
+            match what {
+                "find" => NAMES.iter().for_each(|n| {
+                    black_box(speed_find(times, bp, bl, sp, sl, tp, tl, n.as_ptr(), n.len()));
+                }),
+                "set" => _ = black_box(speed_set(times, bp, bl, sp, sl, tp, tl, KEY.as_ptr(), KEY.len(), v, vl)),
+                "append" => _ = black_box(speed_append(times, bp, bl, sp, sl, tp, tl, NEW.as_ptr(), NEW.len(), v, vl)),
+                _ => _ = black_box(speed_write(times, what == "rebuild", bp, bl, sp, sl, tp, tl, out.as_mut_ptr(), out.len())),
+            }
+        }
+    }
+}
+
+fn rust_call(map: &mut HeaderMap, what: &str, times: usize, text: &'static [u8]) {
+    rust(map, 1, text.len(), text);
+    if what == "rebuild" {
+        map.set_bytes("Connection", "keep-alive");
+    }
+    let mut out: Vec<u8> = Vec::with_capacity(4096);
+    for _ in 0..times {
+        match what {
+            "find" => NAMES.iter().for_each(|n| {
+                black_box(black_box(&*map).get_bytes(n).map_or(0, |v| v.len()));
+            }),
+            "set" => map.set_bytes(black_box(KEY), black_box(VALUE)),
+            "append" => {
+                map.append_bytes(black_box(NEW), black_box(VALUE));
+                map.remove_bytes(black_box(NEW));
+            }
+            _ => {
+                out.clear();
+                black_box(black_box(&*map).write(&mut out).unwrap());
+            }
+        }
+    }
+}
+
 fn rust(map: &mut HeaderMap, times: usize, cut: usize, text: &'static [u8]) -> usize {
     for _ in 0..times {
         let mut reader = Cut { text: black_box(text), at: 0, cut };
@@ -120,8 +188,16 @@ fn rust(map: &mut HeaderMap, times: usize, cut: usize, text: &'static [u8]) -> u
 
 fn main() {
     let args: Vec<String> = std::env::args().collect();
-    let mut ours = Ours { block: vec![0; 32768], store: vec![0; 32768] };
+    let mut ours = Ours { block: vec![0; 32768], store: vec![0; 65536] };
     let mut map = HeaderMap::default();
+    if args.len() == 4 {
+        let (text, times) = (inputs()[0].1, args[3].parse().unwrap());
+        match args[2].as_str() {
+            "rust" => rust_call(&mut map, &args[1], times, text),
+            _ => ours.call(&args[1], times, text),
+        }
+        return;
+    }
     if args.len() == 5 {
         let (name, text) = inputs().into_iter().find(|x| x.0 == args[1]).expect("input");
         let cut = args[2].parse::<usize>().unwrap().clamp(1, text.len());
@@ -153,5 +229,18 @@ fn main() {
             let piece = if cut == text.len() { "whole".into() } else { cut.to_string() };
             println!("{name} {} {piece} {:.0} {:.0}", text.len(), best[0], best[1]);
         }
+    }
+    for what in ["find", "set", "append", "write", "rebuild"] {
+        let (text, times) = (inputs()[0].1, 1000);
+        let mut best = [f64::MAX; 2];
+        for _ in 0..60 {
+            let t = Instant::now();
+            rust_call(&mut map, what, times, text);
+            best[0] = best[0].min(t.elapsed().as_nanos() as f64 / times as f64);
+            let t = Instant::now();
+            ours.call(what, times, text);
+            best[1] = best[1].min(t.elapsed().as_nanos() as f64 / times as f64);
+        }
+        println!("{what} - call {:.0} {:.0}", best[0], best[1]);
     }
 }

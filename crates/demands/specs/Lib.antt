@@ -6,3 +6,4 @@ pub mod Never
 pub mod Untouched
 pub mod Coincide
 pub mod Marked
+pub mod Back

@@ -1,7 +1,9 @@
 // What the benchmarks time: the library's calls, over and over, for a driver in another language to link.
+use lookups::Found;
 use maps::HeaderMap;
 use reader::Answer;
 use reader::Fed;
+ghost use Prim.Native.Nat.{_<_};
 
 // Reads pieces of cut octets of a text, so many, with a map that is used again and begun at each of the text's beginnings; answers how many
 // fields the last map has. The map stays where it is: assigned and passed in this form, no call copies it before it begins.
@@ -48,4 +50,110 @@ pub extern "C" fn speed_read(
     }
     let last = f.map;
     last.fields
+}
+
+// The map of a text, read whole.
+fn map_of(block: &mut [u8], store: &mut [u8], text: &[u8]) -> HeaderMap {
+    let new = HeaderMap::new();
+    let made = reader::begin(new, maps::DEFAULT_LIMIT, maps::LARGEST, true, false, block, store);
+    let begun = made.map;
+    let fed = reader::feed(begun, block, store, text);
+    fed.map
+}
+
+fn length_found<'a>(found: Found, m: HeaderMap, block: &'a [u8], store: &'a [u8]) -> usize
+    ensures { λ r. ⌜ r < 1024 ⌝ }
+{
+    match found {
+        Found::At(i) => {
+            let v = lookups::value(m, block, store, i);
+            v.len() % 1024
+        }
+        Found::Missing => 0,
+        Found::Refused(e) => 0,
+    }
+}
+
+// Looks a name up and its value, so many times, in the map of a text.
+#[no_mangle]
+pub extern "C" fn speed_find(times: usize, block: &mut [u8], store: &mut [u8], text: &[u8], name: &[u8]) -> usize {
+    let m = map_of(block, store, text);
+    let mut sum = 0;
+    let mut i = 0;
+    while i < times {
+        let found = lookups::find(m, block, store, name, 0);
+        sum = (sum + length_found(found, m, block, store)) % 65536;
+        i += 1;
+    }
+    sum
+}
+
+// Sets a field in the map of a text, so many times.
+#[no_mangle]
+pub extern "C" fn speed_set(
+    times: usize,
+    block: &mut [u8],
+    store: &mut [u8],
+    text: &[u8],
+    key: &[u8],
+    value: &[u8],
+) -> usize {
+    let m = map_of(block, store, text);
+    let mut fields = 0;
+    let mut i = 0;
+    while i < times {
+        let e = edits::set(m, block, store, key, value);
+        let k = e.map;
+        fields = k.fields;
+        i += 1;
+    }
+    fields
+}
+
+// Appends a field to the map of a text and removes it again, so many times.
+#[no_mangle]
+pub extern "C" fn speed_append(
+    times: usize,
+    block: &mut [u8],
+    store: &mut [u8],
+    text: &[u8],
+    key: &[u8],
+    value: &[u8],
+) -> usize {
+    let m = map_of(block, store, text);
+    let mut fields = 0;
+    let mut i = 0;
+    while i < times {
+        let e = edits::append(m, block, store, key, value);
+        let longer = e.map;
+        let d = edits::remove(longer, block, store, key);
+        let k = d.map;
+        fields = k.fields;
+        i += 1;
+    }
+    fields
+}
+
+// Writes the map of a text, so many times: as it was read, or rebuilt.
+#[no_mangle]
+pub extern "C" fn speed_write(
+    times: usize,
+    rebuilt: bool,
+    block: &mut [u8],
+    store: &mut [u8],
+    text: &[u8],
+    out: &mut [u8],
+) -> usize {
+    let m = map_of(block, store, text);
+    let mut i = 0;
+    while i < times {
+        if rebuilt {
+            let w = writes::rebuild(m, block, store, out);
+            i += 1;
+        } else {
+            let w = writes::write(m, block, store, out);
+            i += 1;
+        }
+    }
+    m.fields
 }

@@ -1,5 +1,5 @@
 -- A reading's map and loans say what the reading says. Assumes nothing.
-use mathlib.Core.Path.{_≡_, refl, ap}
+use mathlib.Core.Path.{_≡_, refl, _∙_, ap}
 use mathlib.Core.Bool.{Bool}
 use mathlib.Core.List.{List, map}
 use mathlib.Core.Option.{some}
@@ -17,6 +17,7 @@ use Rattle.maps.specs.declared.HeaderMap.{HeaderMap}
 use Rattle.reader.specs.Reading.{Reading}
 use Rattle.reader.specs.Calls.{mapAt}
 use Rattle.lookups.specs.Said.{pairAt, statusAt, saying}
+use Rattle.lookups.proofs.SaidLaws.{said-is}
 use Rattle.tidy.specs.Clean.{said}
 use Rattle.tidy.proofs.TrimTexts.{part-front}
 
@@ -37,7 +38,8 @@ module _ (b s x y : List ℕ) where
 pub map-says : (p : Phase) (awaits quirks : Bool) (m : HeaderMap) (b s : List ℕ) (r : Reading)
     → FitAll (length (r .block)) (length (r .found .store)) (r .found .fields) → FitStatus (length (r .block)) (length (r .found .store)) (r .found .status)
     → saying (mapAt p awaits quirks m r) (lay b (r .block)) (lay s (r .found .store)) ≡ said r
-unfolding saying said
+unfolding said
 map-says p awaits quirks m b s r f t =
+    said-is (mapAt p awaits quirks m r) (lay b (r .block)) (lay s (r .found .store)) ∙
     rw
     (take-at (r .found .fields) (drop (length (r .found .fields)) (m .table)) (length (r .found .fields)) refl, status-laid b s (r .block) (r .found .store) t, pairs-laid b s (r .block) (r .found .store) f)

@@ -12,9 +12,9 @@ use Rattle.leaves.specs.Octets.{before}
 use Rattle.reader.specs.Reading.{Rules}
 use Rattle.lookups.specs.Said.{Pair, Said}
 use Rattle.writes.specs.Written.{crlf, statusLine, pairLines, rebuilt}
-use Rattle.tidy.specs.Clean.{neat, filled, cleanStatus, cleanPairs, clean, expects, tidy}
+use Rattle.tidy.specs.Clean.{neat, filled, cleanStatus, cleanPairs, clean, expects, tidy, Rebuilds}
 use Rattle.tidy.specs.Scan.{neatLine, afterLine, scanned}
-use Rattle.tidy.proofs.TidyBlocks.{Rebuilds, tidy-rebuilds, rebuilds-tidy, both}
+use Rattle.tidy.proofs.TidyBlocks.{tidy-rebuilds, rebuilds-tidy, both}
 use Rattle.tidy.proofs.ScanLines.{text-at, neat-line, after-line, line-neat, line-is}
 use Rattle.tidy.proofs.ScanPairs.{scan-clean, scan-lines}
 

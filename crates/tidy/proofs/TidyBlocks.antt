@@ -13,17 +13,9 @@ use Rattle.leaves.proofs.NameLaws.{same-list-refl, same-list-eq}
 use Rattle.reader.specs.Reading.{Rules, Reading, fed}
 use Rattle.lookups.specs.Said.{Said, pairAt}
 use Rattle.writes.specs.Written.{rebuilt}
-use Rattle.tidy.specs.Clean.{clean, expects, begun, said, Gives, atBlank, alike, tidyAfter, tidy}
+use Rattle.tidy.specs.Clean.{clean, expects, begun, said, Gives, atBlank, alike, tidyAfter, tidy, Rebuilds}
 use Rattle.tidy.proofs.ReadsBack.{back}
 use Rattle.tidy.proofs.FewFields.{fed-within}
-
--- b is the rebuilt block of the clean map m, a status is present exactly when expected, and both keep within their limits
-pub record Rebuilds (limit : ℕ) (status : Bool) (b : List ℕ) (m : Said) : Type 0 where
-  pub isClean : clean m ≡ true
-  pub agrees : expects (m .status) ≡ status
-  pub few : length (m .pairs) ≤ 256
-  pub fits : length b ≤ limit
-  pub is : b ≡ rebuilt m
 
 alike-same : (a b : Bool) → alike a b ≡ true → a ≡ b
 alike-same true b e = sym e

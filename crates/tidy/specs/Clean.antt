@@ -3,7 +3,7 @@ use mathlib.Core.Bool.{Bool, true, false, _&&_, not}
 use mathlib.Core.List.{List, [], _∷_, map}
 use mathlib.Core.Option.{Option, none, some}
 use mathlib.Core.Path.{_≡_, refl}
-use Prim.Native.Nat.{ℕ}
+use Prim.Native.Nat.{ℕ, _≤_}
 use lib.Dec.{eqb}
 use lib.ListN.{length}
 use Rattle.leaves.specs.Octets.{has, sameList}
@@ -95,3 +95,11 @@ tidyAfter status b r =
 -- status is present exactly when expected, and rebuilding gives the same octets."
 unfoldable pub tidy : Rules → Bool → List ℕ → Bool
 tidy R status b = tidyAfter status b (fed R (begun status) b)
+
+-- b is the rebuilt block of the clean map m, a status is present exactly when expected, and both keep within their limits
+pub record Rebuilds (limit : ℕ) (status : Bool) (b : List ℕ) (m : Said) : Type 0 where
+  pub isClean : clean m ≡ true
+  pub agrees : expects (m .status) ≡ status
+  pub few : length (m .pairs) ≤ 256
+  pub fits : length b ≤ limit
+  pub is : b ≡ rebuilt m

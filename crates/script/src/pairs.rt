@@ -1,0 +1,22 @@
+// The word `e`: equality with the kept map.
+use crate::output;
+use equals::Equal;
+use maps::HeaderMap;
+
+pub fn equal<'a>(
+    said: &mut [u8],
+    at: usize,
+    kept: HeaderMap,
+    kept_block: &'a [u8],
+    kept_store: &'a [u8],
+    m: HeaderMap,
+    block: &'a [u8],
+    store: &'a [u8],
+) -> usize {
+    let e = equals::compare(kept, kept_block, kept_store, m, block, store);
+    match e {
+        Equal::Yes => output::character(said, at, b'1'),
+        Equal::No => output::character(said, at, b'0'),
+        Equal::Refused(r) => output::refusal(said, at, r),
+    }
+}

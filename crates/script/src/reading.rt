@@ -1,0 +1,86 @@
+// The words `b`, `f`, `F` and `c`: begin, feed, finish, clear.
+use crate::output;
+use maps::Checked;
+use maps::HeaderMap;
+use reader::Answer;
+
+// The map that a word leaves, and where the output stands.
+pub struct Turned {
+    pub map: HeaderMap,
+    pub at: usize,
+}
+
+pub fn checked(said: &mut [u8], at: usize, c: Checked, letter: u8) -> usize {
+    match c {
+        Checked::Fine => output::character(said, at, letter),
+        Checked::Refused(r) => output::refusal(said, at, r),
+    }
+}
+
+fn answered(said: &mut [u8], at: usize, a: Answer) -> usize {
+    match a {
+        Answer::More => output::text(said, at, b"more"),
+        Answer::Blank => output::text(said, at, b"blank"),
+        Answer::Input => output::text(said, at, b"end"),
+        Answer::Refused(r) => output::refusal(said, at, r),
+    }
+}
+
+pub fn begin(
+    said: &mut [u8],
+    at: usize,
+    m: HeaderMap,
+    limit: usize,
+    room: usize,
+    status: bool,
+    quirks: bool,
+    block: &[u8],
+    store: &[u8],
+) -> Turned {
+    let made = reader::begin(m, limit, room, status, quirks, block, store);
+    let answer = made.answer;
+    let map = made.map;
+    Turned {
+        map,
+        at: checked(said, at, answer, b'b'),
+    }
+}
+
+pub fn feed(
+    said: &mut [u8],
+    at: usize,
+    m: HeaderMap,
+    block: &mut [u8],
+    store: &mut [u8],
+    piece: &[u8],
+) -> Turned {
+    let fed = reader::feed(m, block, store, piece);
+    let answer = fed.answer;
+    let a = answered(said, at, answer);
+    let b = output::character(said, a, b':');
+    let map = fed.map;
+    Turned {
+        map,
+        at: output::number(said, b, fed.taken),
+    }
+}
+
+pub fn finish(said: &mut [u8], at: usize, m: HeaderMap, block: &[u8], store: &mut [u8]) -> Turned {
+    let fed = reader::finish(m, block, store);
+    let answer = fed.answer;
+    let map = fed.map;
+    Turned {
+        map,
+        at: answered(said, at, answer),
+    }
+}
+
+pub fn clear(said: &mut [u8], at: usize, m: HeaderMap, block: &[u8], store: &[u8]) -> Turned {
+    let made = reader::clear(m, block, store);
+    let answer = made.answer;
+    let map = made.map;
+    Turned {
+        map,
+        at: checked(said, at, answer, b'c'),
+    }
+}
