@@ -1,4 +1,3 @@
 pub mod PutLaws
 pub mod FormLaws
 pub mod WriteLaws
-pub mod Marked
