@@ -55,7 +55,15 @@ pub extern "C" fn speed_read(
 // The map of a text, read whole.
 fn map_of(block: &mut [u8], store: &mut [u8], text: &[u8]) -> HeaderMap {
     let new = HeaderMap::new();
-    let made = reader::begin(new, maps::DEFAULT_LIMIT, maps::LARGEST, true, false, block, store);
+    let made = reader::begin(
+        new,
+        maps::DEFAULT_LIMIT,
+        maps::LARGEST,
+        true,
+        false,
+        block,
+        store,
+    );
     let begun = made.map;
     let fed = reader::feed(begun, block, store, text);
     fed.map
@@ -76,7 +84,13 @@ fn length_found<'a>(found: Found, m: HeaderMap, block: &'a [u8], store: &'a [u8]
 
 // Looks a name up and its value, so many times, in the map of a text.
 #[no_mangle]
-pub extern "C" fn speed_find(times: usize, block: &mut [u8], store: &mut [u8], text: &[u8], name: &[u8]) -> usize {
+pub extern "C" fn speed_find(
+    times: usize,
+    block: &mut [u8],
+    store: &mut [u8],
+    text: &[u8],
+    name: &[u8],
+) -> usize {
     let m = map_of(block, store, text);
     let mut sum = 0;
     let mut i = 0;
