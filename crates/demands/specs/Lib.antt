@@ -7,3 +7,5 @@ pub mod Untouched
 pub mod Coincide
 pub mod Marked
 pub mod Back
+pub mod WriteRead
+pub mod Tokens

@@ -315,7 +315,7 @@ fn part(typed: &mut [u8], c: Cursor, m: HeaderMap, name: &[u8], n: usize) -> Dam
 
 // Behind `x`: the name of a number of the map, and what it is to be. Numbers and flags in decimal, the phase `R` or `D`, a place
 // `b.3.7` or `s.0.9`, no status `-`.
-pub fn read(typed: &mut [u8], c: Cursor, m: HeaderMap) -> Damaged {
+fn named(typed: &mut [u8], c: Cursor, m: HeaderMap) -> Damaged {
     let gap = input::pass(typed, c, b' ');
     if gap.good {
         let mut name = [0u8; 8];
@@ -323,4 +323,16 @@ pub fn read(typed: &mut [u8], c: Cursor, m: HeaderMap) -> Damaged {
         return part(typed, l.cursor, m, &name, l.length);
     }
     nonsense(m, gap.cursor)
+}
+
+// The same, with nothing behind it but the end of the word.
+pub fn read(typed: &mut [u8], c: Cursor, m: HeaderMap) -> Damaged {
+    let mut d = named(typed, c, m);
+    if d.good {
+        let e = input::ended(typed, d.cursor);
+        let c = e.cursor;
+        d.cursor = c;
+        d.good = e.good;
+    }
+    d
 }

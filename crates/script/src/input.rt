@@ -119,6 +119,16 @@ pub fn pass(typed: &mut [u8], c: Cursor, x: u8) -> Passed {
     }
 }
 
+// Whether a cursor stands at the end of a word.
+pub fn ended(typed: &mut [u8], c: Cursor) -> Passed {
+    let c = fill(typed, c);
+    let x = here(typed, c);
+    Passed {
+        cursor: c,
+        good: ends_word(x),
+    }
+}
+
 pub fn is_letter(x: u8) -> bool {
     if x < b'A' {
         return false;

@@ -230,23 +230,13 @@ fn name(typed: &mut [u8], c: Cursor) -> Order {
     named(typed, input::next(c), letter)
 }
 
-// Whether a cursor stands at the end of a word.
-pub fn ended(typed: &mut [u8], c: Cursor) -> input::Passed {
-    let c = input::fill(typed, c);
-    let x = input::here(typed, c);
-    input::Passed {
-        cursor: c,
-        good: input::ends_word(x),
-    }
-}
-
 // The word at a cursor, with its arguments but those of `x`. Its octets are laid into one and two.
 pub fn read(typed: &mut [u8], c: Cursor, one: &mut [u8], two: &mut [u8]) -> Order {
     let n = name(typed, c);
     if n.good {
         let o = arguments(typed, n, c, one, two);
         if o.good {
-            let e = ended(typed, o.cursor);
+            let e = input::ended(typed, o.cursor);
             let mut o = o;
             let c = e.cursor;
             o.cursor = c;
