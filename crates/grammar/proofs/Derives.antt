@@ -12,7 +12,8 @@ use Rattle.leaves.specs.Octets.{octets, all, sameList}
 use Rattle.leaves.proofs.NameLaws.{same-list-eq}
 use Rattle.grammar.specs.declared.Stage.{Stage}
 use Rattle.grammar.specs.declared.Stage.the-variants.{First, Line, Key, Text, Return, Closing, Over, Wrong}
-use Rattle.grammar.specs.Grammar.{Fold, Entry, Grammatical, crlf, isFold, areFolds, isToken, isEntry, areEntries, isHeader, foldLines, entryLines, headerLines}
+use Rattle.writes.specs.Written.{crlf}
+use Rattle.grammar.specs.Grammar.{Fold, Entry, Grammatical, isFold, areFolds, isToken, isEntry, areEntries, isHeader, foldLines, entryLines, headerLines}
 use Rattle.grammar.specs.Walk.{opened, folded, keyed, texted, awaited, next, walk, isVersion, grammatical}
 
 -- what is still to come at each stage: fields and the blank line

@@ -1,17 +1,18 @@
 -- The octets of a header by the grammar pass the walk. Assumes nothing.
-use mathlib.Core.Path.{_≡_, refl, sym, _∙_, ap}
+use mathlib.Core.Path.{_≡_, refl, _∙_, ap}
 use mathlib.Core.Bool.{Bool, true, false, _&&_, _||_, false≢true}
 use mathlib.Core.List.{List, [], _∷_, _++_, append-assoc}
 use Prim.Native.Nat.{ℕ}
 use lib.Dec.{eqb}
-use borrow.Author.Tests.{ne-eqb}
 use Rattle.leaves.specs.Choice.{if_then_else_, if-true, if-false, and-left, and-right}
 use Rattle.leaves.specs.Class.{token, text, separator}
 use Rattle.leaves.specs.Octets.{octets, has, all, sameList}
 use Rattle.leaves.proofs.NameLaws.{same-list-eq}
 use Rattle.grammar.specs.declared.Stage.{Stage}
 use Rattle.grammar.specs.declared.Stage.the-variants.{First, Line, Key, Text, Closing}
-use Rattle.grammar.specs.Grammar.{Fold, Entry, Grammatical, crlf, isFold, areFolds, isToken, isEntry, areEntries, isHeader, foldLines, entryLines, headerLines}
+use Rattle.grammar.proofs.Octets.{other}
+use Rattle.writes.specs.Written.{crlf}
+use Rattle.grammar.specs.Grammar.{Fold, Entry, Grammatical, isFold, areFolds, isToken, isEntry, areEntries, isHeader, foldLines, entryLines, headerLines}
 use Rattle.grammar.specs.Walk.{opened, folded, keyed, texted, awaited, next, walk, isVersion, grammatical}
 
 -- a text and CR LF lead to the next line
@@ -59,12 +60,9 @@ unfolding opened token separator has if_then_else_
 open-first = record { key = λ x e. if-true _ _ e; close = refl }
 
 -- a token begins with neither space nor tab
-unlike : (c x : ℕ) → token c ≡ false → token x ≡ true → eqb x c ≡ false
-unlike c x f e = ne-eqb x c (λ q. false≢true (sym f ∙ ap token (sym q) ∙ e))
-
 open-line : Opens Line
 unfolding folded opened token separator has if_then_else_
-open-line = record { key = λ x e. if-false _ _ (unlike 32 x refl e) ∙ if-false _ _ (unlike 9 x refl e) ∙ if-true _ _ e; close = refl }
+open-line = record { key = λ x e. if-false _ _ (other token 32 x refl e) ∙ if-false _ _ (other token 9 x refl e) ∙ if-true _ _ e; close = refl }
 
 walk-token : (s : Stage) → Opens s → (k w : List ℕ) → isToken k ≡ true → walk s (k ++ 58 ∷ w) ≡ walk Text w
 unfolding isToken walk all

@@ -6,9 +6,7 @@ use Prim.Native.Nat.{ℕ}
 use lib.Dec.{eqb}
 use Rattle.leaves.specs.Class.{token, text}
 use Rattle.leaves.specs.Octets.{octets, all, sameList}
-
-abbrev pub crlf : List ℕ
-crlf = 13 ∷ 10 ∷ []
+use Rattle.writes.specs.Written.{crlf}
 
 -- a folded line: what it begins with, and its text
 pub record Fold : Type 0 where

@@ -1,0 +1,5 @@
+pub mod TextLaws
+pub mod CleanLaws
+pub mod TwoLaws
+pub mod PassLaws
+pub mod ScanLaws
