@@ -1,0 +1,4 @@
+pub mod FieldLaws
+pub mod OpenLaws
+pub mod FedLaws
+pub mod WalkLaws
