@@ -1,6 +1,5 @@
 // The words `d` and `m`: the map, and the loans.
 use crate::memory;
-use crate::output;
 use maps::Field;
 use maps::HeaderMap;
 use maps::Phase;
@@ -8,11 +7,11 @@ use maps::Place;
 use maps::Status;
 
 fn bounds(said: &mut [u8], at: usize, letter: u8, from: u32, to: u32) -> usize {
-    let a = output::character(said, at, letter);
-    let b = output::number(said, a, maps::wide(from));
-    let c = output::character(said, b, b'.');
-    let d = output::number(said, c, maps::wide(to));
-    output::character(said, d, b'=')
+    let a = prints::character(said, at, letter);
+    let b = prints::number(said, a, maps::wide(from));
+    let c = prints::character(said, b, b'.');
+    let d = prints::number(said, c, maps::wide(to));
+    prints::character(said, d, b'=')
 }
 
 // A place with its octets, as `b0.1=41`.
@@ -21,11 +20,11 @@ fn place<'a>(said: &mut [u8], at: usize, block: &'a [u8], store: &'a [u8], p: Pl
     match p {
         Place::Block(from, to) => {
             let behind = bounds(said, at, b'b', from.0, to.0);
-            output::octets(said, behind, octets)
+            prints::octets(said, behind, octets)
         }
         Place::Store(from, to) => {
             let behind = bounds(said, at, b's', from.0, to.0);
-            output::octets(said, behind, octets)
+            prints::octets(said, behind, octets)
         }
     }
 }
@@ -34,7 +33,7 @@ fn field<'a>(said: &mut [u8], at: usize, block: &'a [u8], store: &'a [u8], f: Fi
     let key = f.key;
     let value = f.value;
     let a = place(said, at, block, store, key);
-    let b = output::character(said, a, b':');
+    let b = prints::character(said, a, b':');
     place(said, b, block, store, value)
 }
 
@@ -48,7 +47,7 @@ fn listed<'a>(
     i: usize,
 ) -> usize {
     if i > 0 {
-        let behind = output::character(said, at, b';');
+        let behind = prints::character(said, at, b';');
         return field(said, behind, block, store, f);
     }
     field(said, at, block, store, f)
@@ -84,36 +83,36 @@ fn fields<'a>(
     n: usize,
 ) -> usize {
     if n == 0 {
-        return output::character(said, at, b'-');
+        return prints::character(said, at, b'-');
     }
     list(said, at, block, store, t, n)
 }
 
 fn status<'a>(said: &mut [u8], at: usize, block: &'a [u8], store: &'a [u8], s: Status) -> usize {
     match s {
-        Status::Absent => output::character(said, at, b'-'),
+        Status::Absent => prints::character(said, at, b'-'),
         Status::At(p) => place(said, at, block, store, p),
     }
 }
 
 fn phase(said: &mut [u8], at: usize, p: Phase) -> usize {
     match p {
-        Phase::Reading => output::character(said, at, b'R'),
-        Phase::Done => output::character(said, at, b'D'),
+        Phase::Reading => prints::character(said, at, b'R'),
+        Phase::Done => prints::character(said, at, b'D'),
     }
 }
 
 fn number(said: &mut [u8], at: usize, n: usize) -> usize {
-    let digits = output::number(said, at, n);
-    output::character(said, digits, b',')
+    let digits = prints::number(said, at, n);
+    prints::character(said, digits, b',')
 }
 
 // Phase and edited.
 fn state(said: &mut [u8], at: usize, p: Phase, edited: bool) -> usize {
     let a = phase(said, at, p);
-    let b = output::character(said, a, b',');
-    let c = output::flag(said, b, edited);
-    output::character(said, c, b',')
+    let b = prints::character(said, a, b',');
+    let c = prints::flag(said, b, edited);
+    prints::character(said, c, b',')
 }
 
 fn counts(said: &mut [u8], at: usize, count: usize, line: usize, mark: usize) -> usize {
@@ -136,7 +135,7 @@ pub fn map<'a>(
     let a = state(said, at, p, m.edited);
     let b = counts(said, a, m.count, m.line, m.mark);
     let c = status(said, b, block, store, s);
-    let d = output::character(said, c, b',');
+    let d = prints::character(said, c, b',');
     fields(said, d, block, store, t, m.fields)
 }
 
@@ -149,12 +148,12 @@ pub fn loans(
     limit: usize,
     room: usize,
 ) -> usize {
-    let a = output::octets(said, at, memory::front(block, limit));
-    let b = output::character(said, a, b',');
-    let c = output::octets(said, b, memory::front(store, room));
-    let d = output::character(said, c, b',');
+    let a = prints::octets(said, at, memory::front(block, limit));
+    let b = prints::character(said, a, b',');
+    let c = prints::octets(said, b, memory::front(store, room));
+    let d = prints::character(said, c, b',');
     if memory::is_touched(block, limit) {
-        return output::character(said, d, b'1');
+        return prints::character(said, d, b'1');
     }
-    output::flag(said, d, memory::is_touched(store, room))
+    prints::flag(said, d, memory::is_touched(store, room))
 }

@@ -1,5 +1,4 @@
 // The words `s`, `a`, `r` and `u`: set, append, remove, set status.
-use crate::output;
 use crate::reading::Turned;
 use edits::Edit;
 use edits::Edited;
@@ -11,11 +10,11 @@ fn turned(said: &mut [u8], at: usize, e: Edited) -> Turned {
     match answer {
         Edit::Done => Turned {
             map,
-            at: output::text(said, at, b"ok"),
+            at: prints::text(said, at, b"ok"),
         },
         Edit::Refused(r) => Turned {
             map,
-            at: output::refusal(said, at, r),
+            at: prints::refusal(said, at, r),
         },
     }
 }

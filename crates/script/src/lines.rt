@@ -5,7 +5,6 @@ use crate::input::Cursor;
 use crate::memory;
 use crate::orders;
 use crate::orders::Order;
-use crate::output;
 use crate::session;
 use crate::session::Session;
 
@@ -49,8 +48,8 @@ fn stood(cursor: Cursor, at: usize, more: bool) -> Stand {
 
 // `?` and the column; the line has no word more.
 fn nonsense(said: &mut [u8], at: usize, c: Cursor) -> Stand {
-    let sign = output::character(said, at, b'?');
-    stood(c, output::decimal(said, sign, c.column), false)
+    let sign = prints::character(said, at, b'?');
+    stood(c, prints::decimal(said, sign, c.column), false)
 }
 
 // Behind a word: on to the next, or the end of the line.
@@ -58,7 +57,7 @@ fn advanced(typed: &mut [u8], said: &mut [u8], at: usize, c: Cursor) -> Stand {
     let space = input::pass(typed, c, b' ');
     let cursor = space.cursor;
     if space.good {
-        return stood(cursor, output::character(said, at, b' '), true);
+        return stood(cursor, prints::character(said, at, b' '), true);
     }
     stood(cursor, at, false)
 }
@@ -88,7 +87,7 @@ fn damaged(typed: &mut [u8], said: &mut [u8], at: usize, s: Session, c: Cursor) 
         let map = d.map;
         let mut s = s;
         s.map = map;
-        let behind = output::character(said, at, b'x');
+        let behind = prints::character(said, at, b'x');
         return Turn {
             session: s,
             stand: advanced(typed, said, behind, c),
@@ -191,7 +190,7 @@ fn opened(typed: &mut [u8], said: &mut [u8], s: Session, at: usize, c: Cursor) -
             session: s,
             stand: Stand {
                 cursor: c,
-                at: output::flush(said, at),
+                at: prints::flush(said, at),
                 next: Next::Line,
                 over: true,
             },
@@ -206,13 +205,13 @@ fn opened(typed: &mut [u8], said: &mut [u8], s: Session, at: usize, c: Cursor) -
 // The end of a line: past it, and what was said is written where nothing more has come.
 fn closed(typed: &mut [u8], said: &mut [u8], s: Session, at: usize, c: Cursor) -> Turn {
     let cursor = input::next_line(typed, c);
-    let behind = output::character(said, at, b'\n');
+    let behind = prints::character(said, at, b'\n');
     if input::is_used_up(cursor) {
         return Turn {
             session: s,
             stand: Stand {
                 cursor,
-                at: output::flush(said, behind),
+                at: prints::flush(said, behind),
                 next: Next::Line,
                 over: false,
             },

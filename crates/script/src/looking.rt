@@ -1,5 +1,4 @@
 // The words `g`, `v`, `k`, `t` and `l`: lookups, and the content length.
-use crate::output;
 use lookups::Found;
 use maps::HeaderMap;
 
@@ -14,9 +13,9 @@ pub fn find<'a>(
 ) -> usize {
     let found = lookups::find(m, block, store, name, from);
     match found {
-        Found::At(i) => output::number(said, at, i),
-        Found::Missing => output::text(said, at, b"none"),
-        Found::Refused(r) => output::refusal(said, at, r),
+        Found::At(i) => prints::number(said, at, i),
+        Found::Missing => prints::text(said, at, b"none"),
+        Found::Refused(r) => prints::refusal(said, at, r),
     }
 }
 
@@ -28,7 +27,7 @@ pub fn value<'a>(
     store: &'a [u8],
     i: usize,
 ) -> usize {
-    output::octets(said, at, lookups::value(m, block, store, i))
+    prints::octets(said, at, lookups::value(m, block, store, i))
 }
 
 pub fn key<'a>(
@@ -39,7 +38,7 @@ pub fn key<'a>(
     store: &'a [u8],
     i: usize,
 ) -> usize {
-    output::octets(said, at, lookups::key(m, block, store, i))
+    prints::octets(said, at, lookups::key(m, block, store, i))
 }
 
 pub fn status<'a>(
@@ -49,9 +48,9 @@ pub fn status<'a>(
     block: &'a [u8],
     store: &'a [u8],
 ) -> usize {
-    output::octets(said, at, lookups::status(m, block, store))
+    prints::octets(said, at, lookups::status(m, block, store))
 }
 
 pub fn length(said: &mut [u8], at: usize, text: &[u8]) -> usize {
-    output::decimal(said, at, leaves::lengths::content_length(text))
+    prints::decimal(said, at, leaves::lengths::content_length(text))
 }

@@ -9,7 +9,6 @@ mod lines;
 mod looking;
 mod memory;
 mod orders;
-mod output;
 mod pairs;
 mod reading;
 mod session;

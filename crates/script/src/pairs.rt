@@ -1,5 +1,4 @@
 // The word `e`: equality with the kept map.
-use crate::output;
 use equals::Equal;
 use maps::HeaderMap;
 
@@ -15,8 +14,8 @@ pub fn equal<'a>(
 ) -> usize {
     let e = equals::compare(kept, kept_block, kept_store, m, block, store);
     match e {
-        Equal::Yes => output::character(said, at, b'1'),
-        Equal::No => output::character(said, at, b'0'),
-        Equal::Refused(r) => output::refusal(said, at, r),
+        Equal::Yes => prints::character(said, at, b'1'),
+        Equal::No => prints::character(said, at, b'0'),
+        Equal::Refused(r) => prints::refusal(said, at, r),
     }
 }

@@ -1,5 +1,4 @@
 // The words `b`, `f`, `F` and `c`: begin, feed, finish, clear.
-use crate::output;
 use maps::Checked;
 use maps::HeaderMap;
 use reader::Answer;
@@ -12,17 +11,17 @@ pub struct Turned {
 
 pub fn checked(said: &mut [u8], at: usize, c: Checked, letter: u8) -> usize {
     match c {
-        Checked::Fine => output::character(said, at, letter),
-        Checked::Refused(r) => output::refusal(said, at, r),
+        Checked::Fine => prints::character(said, at, letter),
+        Checked::Refused(r) => prints::refusal(said, at, r),
     }
 }
 
 fn answered(said: &mut [u8], at: usize, a: Answer) -> usize {
     match a {
-        Answer::More => output::text(said, at, b"more"),
-        Answer::Blank => output::text(said, at, b"blank"),
-        Answer::Input => output::text(said, at, b"end"),
-        Answer::Refused(r) => output::refusal(said, at, r),
+        Answer::More => prints::text(said, at, b"more"),
+        Answer::Blank => prints::text(said, at, b"blank"),
+        Answer::Input => prints::text(said, at, b"end"),
+        Answer::Refused(r) => prints::refusal(said, at, r),
     }
 }
 
@@ -57,11 +56,11 @@ pub fn feed(
     let fed = reader::feed(m, block, store, piece);
     let answer = fed.answer;
     let a = answered(said, at, answer);
-    let b = output::character(said, a, b':');
+    let b = prints::character(said, a, b':');
     let map = fed.map;
     Turned {
         map,
-        at: output::number(said, b, fed.taken),
+        at: prints::number(said, b, fed.taken),
     }
 }
 

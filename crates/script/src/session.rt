@@ -4,7 +4,6 @@ use crate::editing;
 use crate::looking;
 use crate::memory;
 use crate::orders::Order;
-use crate::output;
 use crate::pairs;
 use crate::reading;
 use crate::reading::Turned;
@@ -193,7 +192,7 @@ pub fn run(
                 kept_block,
                 kept_store,
             ),
-            at: output::character(said, at, b'K'),
+            at: prints::character(said, at, b'K'),
         },
         b'f' | b'F' | b'c' | b's' | b'a' | b'r' | b'u' => {
             let t = changed(

@@ -1,17 +1,16 @@
 // The words `w` and `W`: write, rebuild.
 use crate::memory;
-use crate::output;
 use maps::HeaderMap;
 use writes::Wrote;
 
 fn answered(said: &mut [u8], at: usize, w: Wrote, sheet: &[u8]) -> usize {
     match w {
         Wrote::Count(n) => {
-            let a = output::number(said, at, n);
-            let b = output::character(said, a, b':');
-            output::octets(said, b, sheet)
+            let a = prints::number(said, at, n);
+            let b = prints::character(said, a, b':');
+            prints::octets(said, b, sheet)
         }
-        Wrote::Refused(r) => output::refusal(said, at, r),
+        Wrote::Refused(r) => prints::refusal(said, at, r),
     }
 }
 

@@ -1,4 +1,2 @@
-pub mod FieldLaws
-pub mod OpenLaws
 pub mod FedLaws
 pub mod WalkLaws

@@ -1,3 +1,1 @@
-pub mod Opening
 pub mod Walk
-pub mod Resume

@@ -19,9 +19,9 @@ use Rattle.reader.specs.Calls.{checkedRooms, feeding}
 use Rattle.reader.specs.declared.Fed.{Fed}
 use Rattle.reader.specs.declared.Answer.{Answer}
 use Rattle.reader.specs.declared.Answer.the-variants.{More as FedMore, Blank, Input, Refused as FedRefused}
-use Rattle.walker.specs.Opening.{cap, opening}
-use Rattle.walker.specs.declared.openings.Opening.{Opening}
-use Rattle.walker.specs.declared.openings.Opening.the-variants.{Record as Opens, Refused as Shut}
+use Rattle.openings.specs.Opening.{cap, opening}
+use Rattle.openings.specs.declared.Opening.{Opening}
+use Rattle.openings.specs.declared.Opening.the-variants.{Record as Opens, Refused as Shut}
 use Rattle.walker.specs.declared.Stage.{Stage}
 use Rattle.walker.specs.declared.Stage.the-variants.{Between, Header, Body, Cr, Lf, LastCr, LastLf, Ended, Stopped}
 use Rattle.walker.specs.declared.Resting.{Resting}

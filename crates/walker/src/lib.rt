@@ -1,7 +1,4 @@
-// The record walker: header, body, trailer, again; and the resume check.
-pub mod openings;
-pub mod resume;
-
+// The record walker: header, body, trailer, again.
 use leaves::refusals::Refusal;
 use maps::Checked;
 use maps::HeaderMap;
@@ -13,7 +10,7 @@ ghost use mathlib.Core.Path.{_≡_};
 ghost use Prim.Native.Nat.{_+_, _≤_, min};
 ghost use lib.ListN.{length, take, drop};
 ghost use Rattle.maps.specs.Maps.{Is};
-ghost use Rattle.walker.specs.Opening.{opening as openingOf};
+ghost use Rattle.openings.specs.Opening.{opening as openingOf};
 ghost use Rattle.walker.specs.Walk.{stands as standing, stopsAt, stopsInside, emptied as emptiedMap, fresh as freshMap, starting, resting, readyAt, checkedWalker, allowed as allowedOf, bodyWalked, common as commonOf, trailerStage, trailerEnded, trailerWalked, walked as walkedTo, headerMore, openedAt, headerBy, headerRead, restWalked, betweenWalked, headerWalked, walkedOn, walking, stageEnded, ending};
 
 // The first position that is too far.
