@@ -7,5 +7,8 @@ pub mod Untouched
 pub mod Coincide
 pub mod Marked
 pub mod Back
+pub mod CallSays
+pub mod RebuildsAlike
+pub mod OneTidy
 pub mod WriteRead
 pub mod Tokens

@@ -4,10 +4,9 @@ use mathlib.Core.Bool.{Bool, true, false}
 use mathlib.Core.List.{List}
 use Prim.Native.Nat.{ℕ, min, _≤_, _<_}
 use native.Mathlib.Omega.{arith}
-use borrow.Author.Tests.{le-leb, lt-leb, leb-true, leb-false, eq-eqb, ne-eqb}
+use borrow.Author.Tests.{le-leb, lt-leb, leb-true, leb-false}
 use lib.Dec.{leb}
-use lib.ListN.{length}
-use Rattle.leaves.specs.Choice.{if_then_else_, if-true, if-false, and-left, and-right}
+use Rattle.leaves.specs.Choice.{if-true, if-false, and-left, and-right}
 use Rattle.leaves.specs.Octets.{sameList}
 use Rattle.leaves.specs.Number.{decimal, isDecimal, contentLength}
 use Rattle.leaves.specs.declared.refusals.Refusal.{Refusal}
@@ -26,7 +25,7 @@ use Rattle.lookups.specs.Lookups.{finding, statusIn, statusPlace, valuePlace, h
 use Rattle.lookups.specs.declared.Found.{Found}
 use Rattle.lookups.specs.declared.Found.the-variants.{At, Missing, Refused as NotLooked}
 use Rattle.lookups.proofs.HandLaws.{status-fine}
-use Rattle.codes.specs.Codes.{kindOf, coding}
+use Rattle.codes.specs.Codes.{kindOf}
 use Rattle.codes.specs.declared.Kind.the-variants.{Is as IsKind, Refused as NoKind}
 use Rattle.codes.proofs.MapLaws.{kind-found, kind-missing}
 use Rattle.openings.specs.Opening.{versionText, isVersion, isLength, typeOf, opened, opening}

@@ -5,7 +5,6 @@ use Prim.Native.Nat.{ℕ, suc, _+_, _-_, min}
 use lib.Dec.{eqb, ltb}
 use lib.ListN.{length, take, drop}
 use Rattle.leaves.specs.Choice.{if_then_else_}
-use Rattle.leaves.specs.Octets.{octets}
 use Rattle.leaves.specs.declared.refusals.Refusal.{Refusal}
 use Rattle.leaves.specs.declared.refusals.Refusal.the-variants.{BadMap, BadTrailer, CutShort, TooFar}
 use Rattle.maps.specs.Good.{checked, unless, isReading, isDone}
