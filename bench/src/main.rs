@@ -3,6 +3,8 @@
 //!     bench                  a line for each input, cut and side: best nanoseconds of one reading
 //!     bench INPUT CUT SIDE N  N readings of one side, for callgrind; SIDE is rust, ours or none
 //!     bench CALL SIDE N       N of the other calls on the map of the first input
+//!     bench others            one piece: httparse and one copy of the octets, best nanoseconds
+//!     bench walks             walking over files of records, beside reading the file and copying it, octets a nanosecond
 use oracle::warc::header::HeaderMap;
 use std::hint::black_box;
 use std::io::{self, BufRead, Read, Seek, SeekFrom};
@@ -12,6 +14,9 @@ unsafe extern "C" {
     fn speed_read(
         pieces: usize, cut: usize, block: *mut u8, block_len: usize, store: *mut u8, store_len: usize, text: *const u8, text_len: usize,
     ) -> usize;
+    fn speed_walk(
+        calls: usize, cut: usize, block: *mut u8, block_len: usize, store: *mut u8, store_len: usize, file: *const u8, file_len: usize,
+    ) -> u64;
     fn speed_find(
         times: usize, block: *mut u8, block_len: usize, store: *mut u8, store_len: usize, text: *const u8, text_len: usize, name: *const u8,
         name_len: usize,
@@ -186,10 +191,100 @@ fn rust(map: &mut HeaderMap, times: usize, cut: usize, text: &'static [u8]) -> u
     map.len()
 }
 
+/// The best time of 60 runs, in nanoseconds for one of `times`.
+fn best(times: usize, mut run: impl FnMut()) -> f64 {
+    (0..60).fold(f64::MAX, |least, _| {
+        let t = Instant::now();
+        run();
+        least.min(t.elapsed().as_nanos() as f64 / times as f64)
+    })
+}
+
+/// httparse finds the fields and hands out parts of the text: it copies nothing, folds nothing and keeps nothing. A WARC header's first line is
+/// none of its own, so there it has the lines behind it.
+fn httparse_reads(name: &str, text: &[u8]) -> usize {
+    let mut fields = [httparse::EMPTY_HEADER; 256];
+    if name == "warc" {
+        return match httparse::parse_headers(&text[10..], &mut fields).unwrap() {
+            httparse::Status::Complete((_, found)) => found.len(),
+            httparse::Status::Partial => 0,
+        };
+    }
+    let mut answer = httparse::Response::new(&mut fields);
+    answer.parse(text).unwrap();
+    answer.headers.len()
+}
+
+fn others() {
+    let mut copy = vec![0u8; 32768];
+    for (name, text) in inputs() {
+        let times = 400_000 / text.len() + 1;
+        let parsed = best(times, || {
+            for _ in 0..times {
+                black_box(httparse_reads(name, black_box(text)));
+            }
+        });
+        let copied = best(times, || {
+            for _ in 0..times {
+                black_box(&mut copy)[..text.len()].copy_from_slice(black_box(text));
+            }
+        });
+        println!("{name} {} {parsed:.0} {copied:.0}", text.len());
+    }
+}
+
+/// A file of records with bodies of one length.
+fn records(count: usize, body: usize) -> Vec<u8> {
+    let mut file = Vec::new();
+    for i in 0..count {
+        let head = format!(
+            "WARC/1.1\r\nWARC-Type: response\r\nWARC-Record-ID: <urn:uuid:6a1b9f9e-3f7c-4f58-9c0e-{i:012x}>\r\nWARC-Date: 2026-11-15T01:40:09Z\r\n\
+             WARC-Target-URI: https://www.example.org/scan/{i}.ply\r\nContent-Type: application/http; msgtype=response\r\nContent-Length: {body}\r\n\r\n"
+        );
+        file.extend_from_slice(head.as_bytes());
+        file.extend((0..body).map(|k| (k * 31 + i) as u8));
+        file.extend_from_slice(b"\r\n\r\n");
+    }
+    file
+}
+
+fn walks(ours: &mut Ours) {
+    const PIECE: usize = 65536;
+    for (name, count, body) in [("small", 20_000, 600), ("large", 4, 16 << 20)] {
+        let file = records(count, body);
+        let path = std::env::temp_dir().join(format!("bisquecrow-bench-{name}"));
+        std::fs::write(&path, &file).unwrap();
+        let calls = 2000;
+        let mut taken = 0;
+        let walked = best(1, || {
+            let (b, s) = (&mut ours.block, &mut ours.store);
+            taken = unsafe { speed_walk(calls, PIECE, b.as_mut_ptr(), b.len(), s.as_mut_ptr(), s.len(), file.as_ptr(), file.len()) };
+        });
+        let mut piece = vec![0u8; PIECE];
+        let read = best(1, || {
+            let mut f = std::fs::File::open(&path).unwrap();
+            while f.read(&mut piece).unwrap() > 0 {}
+        });
+        let copied = best(1, || {
+            for p in file.chunks(PIECE) {
+                black_box(&mut piece)[..p.len()].copy_from_slice(p);
+            }
+        });
+        let size = file.len() as f64;
+        println!("{name} {} {:.2} {:.2} {:.2} {:.0}", file.len(), taken as f64 / walked, size / read, size / copied, walked / calls as f64);
+        std::fs::remove_file(&path).unwrap();
+    }
+}
+
 fn main() {
     let args: Vec<String> = std::env::args().collect();
     let mut ours = Ours { block: vec![0; 32768], store: vec![0; 65536] };
     let mut map = HeaderMap::default();
+    match args.get(1).map(String::as_str) {
+        Some("others") => return others(),
+        Some("walks") => return walks(&mut ours),
+        _ => (),
+    }
     if args.len() == 4 {
         let (text, times) = (inputs()[0].1, args[3].parse().unwrap());
         match args[2].as_str() {

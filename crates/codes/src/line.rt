@@ -1,6 +1,5 @@
 // The code and the reason that a status line's text says.
 use leaves::lengths;
-use leaves::lines;
 use leaves::refusals::Refusal;
 ghost use mathlib.Core.Path.{_≡_};
 ghost use Prim.Native.Nat.{_≤_};

@@ -15,6 +15,11 @@ use Rattle.writes.specs.Written.{writing, rebuilding}
 use Rattle.writes.specs.Written.{Given as Writes, Is as IsWritten, coincide as written-once}
 use Rattle.writes.specs.declared.Wrote.{Wrote}
 use Rattle.equals.specs.Equal.{comparing}
+use Rattle.tests.specs.Tests.{cleaning, tidying}
+use Rattle.grammar.specs.Walk.{grammatical}
+use Rattle.walker.specs.Walk.{starting, walking, ending}
+use Rattle.walker.specs.declared.Walker.{Walker}
+use Rattle.resume.specs.Resume.{resuming}
 use Rattle.codes.specs.Codes.{coding, reasoning, lengthOf, kindOf, Phrased, phrased-once}
 
 -- "Show that any two results it admits coincide", for each form of contract that a public call has: the result and both loans
@@ -110,6 +115,33 @@ module _ (m : HeaderMap) (b s : List ℕ) where
 
   pub record-type-once : OnceTold (kindOf m b s)
   record-type-once = once-told (kindOf m b s)
+
+  -- the clean test; the resume check, with the second map and its loans
+  pub clean-once : OnceTold (cleaning m b s)
+  clean-once = once-told (cleaning m b s)
+
+  pub resume-once : (k : HeaderMap) (c z : List ℕ) → OnceTold (resuming m b s k c z)
+  resume-once k c z = once-told (resuming m b s k c z)
+
+  -- a walker's start
+  pub start-once : (room position : ℕ) → Once (starting m room position b s)
+  start-once room position = once (starting m room position b s)
+
+-- a walker's other calls
+module _ (w : Walker) (b s : List ℕ) where
+  pub walk-once : (piece : List ℕ) → Once (walking w b s piece)
+  walk-once piece = once (walking w b s piece)
+
+  pub end-once : Once (ending w b s)
+  end-once = once (ending w b s)
+
+-- the tests that take octets
+module _ (octets : List ℕ) where
+  pub tidy-once : (status quirks : Bool) (limit : ℕ) → OnceTold (tidying octets status quirks limit)
+  tidy-once status quirks limit = once-told (tidying octets status quirks limit)
+
+  pub grammatical-once : OnceTold (grammatical octets)
+  grammatical-once = once-told (grammatical octets)
 
 -- the first map
 pub new-once : OnceTold unmade

@@ -8,7 +8,7 @@ use lib.Dec.{T}
 use lib.ListN.{replicate}
 use Rattle.leaves.specs.Choice.{if_then_else_}
 use Rattle.leaves.specs.Class.{blank, digit}
-use Rattle.leaves.specs.Line.{endsLine, crBefore}
+use Rattle.lines.specs.Line.{endsLine, crBefore}
 use Rattle.leaves.specs.Number.{decimalFrom, isDecimal, contentLength}
 use Rattle.leaves.specs.Octets.{octets, has, before, all, sameList}
 use Rattle.leaves.specs.Paste.{pasted}
@@ -42,6 +42,9 @@ use Rattle.codes.specs.Codes.{statusText, coding}
 use Rattle.codes.specs.declared.line.Code.{Code}
 use Rattle.codes.specs.declared.line.Code.the-variants.{Is, None as NoCode, Refused as Uncoded}
 use Rattle.tidy.specs.Clean.{neat, cleanPair, cleanPairs, cleanStatus, clean}
+use Rattle.tests.specs.Tests.{cleaning}
+use Rattle.tests.specs.declared.Test.{Test}
+use Rattle.tests.specs.declared.Test.the-variants.{Yes, No, Refused as Untested}
 use Rattle.demands.specs.Cut.{andThen, feedings, joined, cut}
 
 -- an answer as a number: this paper's, or 100 for more, 101 for an end by a blank line, 102 for one by the end of input
@@ -118,9 +121,11 @@ codeOf g = codeShown (coding (g .result .map) (g .block) (g .store))
 abbrev pub reasonOf : Given Fed → List ℕ
 reasonOf g = Option·getD (reasonPhrase (statusText (g .result .map) (g .block) (g .store))) []
 
-abbrev pub truth : Bool → List ℕ
-truth true = octets "yes"
-truth false = octets "no"
+-- what a test answers
+abbrev pub testShown : Test → List ℕ
+testShown Yes = octets "yes"
+testShown No = octets "no"
+testShown (Untested e) = number e ∷ []
 
 -- a row of the table: what the definitions give, and what the example says
 pub record Row : Type 0 where
@@ -162,7 +167,7 @@ table =
     row
     (let z : List ℕ = replicate 32768 0 in
     let g = setting emptied z z (octets ": a") (octets "v") in
-    editShown g ++ truth (clean (saying (g .result .map) (g .block) (g .store))) ∷ [])
+    editShown g ++ testShown (cleaning (g .result .map) (g .block) (g .store)) ∷ [])
     ((100 ∷ 3 ∷ []) ∷ octets " a" ∷ octets "v" ∷ octets "no" ∷ []) ∷
     -- M10 lengths: empty 0; `12x` 0; `18446744073709551616` gives 18446744073709551615
     row ((contentLength [] ∷ contentLength (octets "12x") ∷ contentLength (octets "18446744073709551616") ∷ []) ∷ [])
@@ -192,7 +197,7 @@ holds (r ∷ rs) = sames (r .gives) (r .says) && holds rs
 
 -- "M1 to M12 are shown of the definitions by a single table and one fact over it": every row gives what it says
 pub marked : T (holds table)
-unfolding table if_then_else_ blank digit endsLine crBefore decimalFrom isDecimal contentLength has before all sameList trimEnd trimStart leading lastOf goodFields good checked endsBlock grown regrown folded split rule4 ruled closed put step fed finished fedFrom finishedFrom feeding finishing clearing checkedRooms beginning pasted dropped spaced scrubbed named lowered keeps replaced changing setting appending shownStatus isHttp behindSpace withoutPlus smallNumber statusCode reasonStart coding neat cleanPair cleanPairs cleanStatus clean saying pairLine pairLines statusLine rebuilt written giving writing
+unfolding table if_then_else_ blank digit endsLine crBefore decimalFrom isDecimal contentLength has before all sameList trimEnd trimStart leading lastOf goodFields good checked endsBlock grown regrown folded split rule4 ruled closed put step fed finished fedFrom finishedFrom feeding finishing clearing checkedRooms beginning pasted dropped spaced scrubbed named lowered keeps replaced changing setting appending shownStatus isHttp behindSpace withoutPlus smallNumber statusCode reasonStart coding neat cleanPair cleanPairs cleanStatus clean cleaning saying pairLine pairLines statusLine rebuilt written giving writing
 marked = tt
 
 -- "any cut of M1": the text of a reading in the table may come in any pieces

@@ -9,9 +9,9 @@ use borrow.Author.Tests.{ne-eqb, ltb-true, not-true}
 use lib.Dec.{ltb}
 use lib.ListN.{length, getD, drop}
 use Rattle.leaves.specs.Choice.{and-left, and-right}
-use Rattle.leaves.specs.Line.{tight}
+use Rattle.lines.specs.Line.{tight}
 use Rattle.leaves.specs.Octets.{before}
-use Rattle.leaves.proofs.TightLaws.{Tight, tight-says, key-starts, key-ends, value-starts, value-ends}
+use Rattle.lines.proofs.TightLaws.{Tight, tight-says, key-starts, key-ends, value-starts, value-ends}
 use Rattle.maps.specs.declared.Field.{Field}
 use Rattle.folds.specs.Asks.{putTight}
 use Rattle.folds.specs.Rule.{plain, continues, split, rule4}

@@ -1,5 +1,4 @@
 // Lines and folds: what a line does to a map, by rules 3 and 4.
-use leaves::lines;
 use leaves::refusals::Refusal;
 use leaves::trims;
 use maps::Field;
@@ -10,7 +9,7 @@ ghost use mathlib.Core.List.{_∷_, _++_};
 ghost use Prim.Native.Nat.{_+_, _-_, _≤_, _<_};
 ghost use lib.Dec.{ltb};
 ghost use lib.ListN.{length, take, drop};
-ghost use Rattle.leaves.specs.Line.{tight};
+ghost use Rattle.lines.specs.Line.{tight};
 ghost use Rattle.leaves.specs.Octets.{before};
 ghost use Rattle.leaves.specs.Paste.{pasted};
 ghost use Rattle.maps.specs.Places.{part};

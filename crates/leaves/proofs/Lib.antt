@@ -5,8 +5,4 @@ pub mod ScrubLaws
 pub mod NumberLaws
 pub mod NameLaws
 pub mod SearchLaws
-pub mod ScanLaws
-pub mod EndLaws
-pub mod LineLaws
-pub mod TightLaws
 pub mod PasteLaws

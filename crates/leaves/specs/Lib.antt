@@ -6,5 +6,4 @@ pub mod Trim
 pub mod Sanitise
 pub mod Number
 pub mod Name
-pub mod Line
 pub mod Refusals

@@ -19,6 +19,10 @@ use Rattle.maps.specs.declared.HeaderMap.{HeaderMap}
 use Rattle.maps.specs.declared.Checked.{Checked}
 use Rattle.maps.specs.declared.Checked.the-variants.{Fine, Refused}
 
+-- "default 32,768"
+abbrev pub defaultLimit : ℕ
+defaultLimit = 32768
+
 -- "Limit: 0 to 65,536", "Store room: from the limit to 65,536"
 abbrev pub goodRooms : ℕ → ℕ → Bool
 goodRooms limit room = leb limit 65536 && (leb limit room && leb room 65536)

@@ -28,7 +28,7 @@ use Rattle.lookups.proofs.HandLaws.{status-fine}
 use Rattle.codes.specs.Codes.{kindOf}
 use Rattle.codes.specs.declared.Kind.the-variants.{Is as IsKind, Refused as NoKind}
 use Rattle.codes.proofs.MapLaws.{kind-found, kind-missing}
-use Rattle.openings.specs.Opening.{versionText, isVersion, isLength, typeOf, opened, opening}
+use Rattle.openings.specs.Opening.{longest, versionText, isVersion, isLength, typeOf, opened, opening}
 use Rattle.openings.specs.declared.Opening.the-variants.{Record, Refused}
 use Rattle.singles.specs.Single.{valuesOf, onlyValue, single}
 use Rattle.singles.proofs.FieldLaws.{values-missing, values-found, never-refused, single-is}
@@ -39,32 +39,32 @@ module _ (v : List ℕ) (n : ℕ) (d : isDecimal v ≡ true) (e : n ≡ contentL
   unfolding contentLength
   capped = e ∙ rw d
 
-  pub length-fits : n ≤ 1099511627776 → isLength v ≡ true
+  pub length-fits : n ≤ longest → isLength v ≡ true
   length-fits h =
       let c : n ≡ min (decimal v) 18446744073709551615 = capped in
-      let k : leb (decimal v) 1099511627776 ≡ true = le-leb (decimal v) 1099511627776 (omega arith) in
+      let k : leb (decimal v) longest ≡ true = le-leb (decimal v) longest (omega arith) in
       rw (d, k)
 
-  pub length-over : 1099511627776 < n → isLength v ≡ false
+  pub length-over : longest < n → isLength v ≡ false
   length-over h =
       let c : n ≡ min (decimal v) 18446744073709551615 = capped in
-      let k : leb (decimal v) 1099511627776 ≡ false = lt-leb (decimal v) 1099511627776 (omega arith) in
+      let k : leb (decimal v) longest ≡ false = lt-leb (decimal v) longest (omega arith) in
       rw (d, k)
 
-leb-over : (n : ℕ) → leb n 1099511627776 ≡ false → 1099511627776 < n
-leb-over n f = leb-false n 1099511627776 f
+leb-over : (n : ℕ) → leb n longest ≡ false → longest < n
+leb-over n f = leb-false n longest f
 
-pub length-tested : (v : List ℕ) (n : ℕ) → isDecimal v ≡ true → n ≡ contentLength v → leb n 1099511627776 ≡ isLength v
-length-tested v n d e = choose (leb n 1099511627776) refl
+pub length-tested : (v : List ℕ) (n : ℕ) → isDecimal v ≡ true → n ≡ contentLength v → leb n longest ≡ isLength v
+length-tested v n d e = choose (leb n longest) refl
   where
-    choose : (t : Bool) → leb n 1099511627776 ≡ t → leb n 1099511627776 ≡ isLength v
-    choose true f = f ∙ sym (length-fits v n d e (leb-true n 1099511627776 f))
+    choose : (t : Bool) → leb n longest ≡ t → leb n longest ≡ isLength v
+    choose true f = f ∙ sym (length-fits v n d e (leb-true n longest f))
     choose false f = f ∙ sym (length-over v n d e (leb-over n f))
 
 pub length-is : (v : List ℕ) (n : ℕ) → isLength v ≡ true → n ≡ contentLength v → n ≡ decimal v
 length-is v n t e =
-    let d = and-left (isDecimal v) (leb (decimal v) 1099511627776) t in
-    let k : decimal v ≤ 1099511627776 = leb-true (decimal v) 1099511627776 (and-right (isDecimal v) (leb (decimal v) 1099511627776) t) in
+    let d = and-left (isDecimal v) (leb (decimal v) longest) t in
+    let k : decimal v ≤ longest = leb-true (decimal v) longest (and-right (isDecimal v) (leb (decimal v) longest) t) in
     let c : n ≡ min (decimal v) 18446744073709551615 = capped v n d e in
     omega arith
 

@@ -19,8 +19,8 @@ use Rattle.openings.specs.declared.Opening.{Opening}
 use Rattle.openings.specs.declared.Opening.the-variants.{Record, Refused}
 
 -- "over 1,099,511,627,776"
-abbrev pub cap : ℕ
-cap = 1099511627776
+abbrev pub longest : ℕ
+longest = 1099511627776
 
 -- "`WARC/1.0` or `WARC/1.1`"
 abbrev pub versionText : List ℕ → Bool
@@ -33,7 +33,7 @@ isVersion (some t) = versionText t
 
 -- not "absent, repeated, not one or more digits, or over 1,099,511,627,776": a value absent or repeated is no octets here
 abbrev pub isLength : List ℕ → Bool
-isLength v = isDecimal v && leb (decimal v) cap
+isLength v = isDecimal v && leb (decimal v) longest
 
 -- "no field 0"; "the first `WARC-Type` counts"
 abbrev pub typeOf : List (List ℕ) → ℕ

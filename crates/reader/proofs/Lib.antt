@@ -3,3 +3,4 @@ pub mod OctetSteps
 pub mod LineSteps
 pub mod FeedLaws
 pub mod FinishLaws
+pub mod FedLaws

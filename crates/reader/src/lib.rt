@@ -1,8 +1,7 @@
 // The reader: begin, feed, finish and clear, over a map and its two loans.
 use folds::Change;
-use leaves::lines;
-use leaves::lines::Took;
 use leaves::refusals::Refusal;
+use lines::Took;
 use maps::Checked;
 use maps::HeaderMap;
 use maps::Phase;

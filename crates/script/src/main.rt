@@ -1,11 +1,11 @@
 // Runs cases written one to a line and prints every answer: the words of a line by single spaces, octets in lower-case hex, `-`
 // for no octets, numbers in decimal; the answers of a line by single spaces on a line. A line that makes no sense prints its
 // answers up to there, `?` and the column, and the next line is read.
+mod cases;
 mod damage;
 mod dumps;
 mod editing;
 mod input;
-mod lines;
 mod looking;
 mod memory;
 mod orders;
@@ -27,7 +27,7 @@ fn main() {
     let mut kept_block = [0u8; 70000];
     let mut kept_store = [0u8; 70000];
     let mut sheet = [0u8; 140000];
-    lines::run(
+    cases::run(
         &mut typed,
         &mut said,
         &mut one,

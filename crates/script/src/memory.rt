@@ -49,6 +49,6 @@ pub fn is_touched(loan: &[u8], from: usize) -> bool {
 // Copies what fits.
 pub fn copy(from: &[u8], to: &mut [u8]) {
     if from.len() <= to.len() {
-        leaves::lines::copy_in(to, from);
+        lines::copy_in(to, from);
     }
 }

@@ -3,7 +3,7 @@ use lookups::Found;
 use maps::HeaderMap;
 use reader::Answer;
 use reader::Fed;
-ghost use Prim.Native.Nat.{_<_};
+ghost use Prim.Native.Nat.{_<_, _≤_};
 
 // Reads pieces of cut octets of a text, so many, with a map that is used again and begun at each of the text's beginnings; answers how many
 // fields the last map has. The map stays where it is: assigned and passed in this form, no call copies it before it begins.
@@ -170,4 +170,53 @@ pub extern "C" fn speed_write(
         }
     }
     m.fields
+}
+
+// Where a piece of cut octets from a place on ends.
+fn ahead(at: usize, cut: usize, n: usize) -> usize
+    requires { ⌜ at ≤ n ⌝ }
+    ensures { λ r. ⌜ (at ≤ r) × (r ≤ n) ⌝ }
+{
+    if cut < n - at {
+        return at + cut;
+    }
+    n
+}
+
+// The place behind what was taken, the beginning again at the end.
+fn behind(at: usize, taken: usize, n: usize) -> usize
+    requires { ⌜ at ≤ n ⌝ }
+    ensures { λ r. ⌜ r ≤ n ⌝ }
+{
+    if taken < n - at {
+        return at + taken;
+    }
+    0
+}
+
+// Walks over the records of a file, again and again, in pieces of at most cut octets, with so many calls; answers how many octets were taken.
+#[no_mangle]
+pub extern "C" fn speed_walk(
+    calls: usize,
+    cut: usize,
+    block: &mut [u8],
+    store: &mut [u8],
+    file: &[u8],
+) -> u64 {
+    let new = HeaderMap::new();
+    let started = walker::start(new, maps::LARGEST, 0, block, store);
+    let mut w = started.walker;
+    let mut total: u64 = 0;
+    let mut at = 0;
+    let mut i = 0;
+    while i < calls {
+        i += 1;
+        let e = ahead(at, cut, file.len());
+        let r = walker::walk(w, block, store, &file[at..e]);
+        let taken = r.taken;
+        at = behind(at, taken, file.len());
+        total = std::num::wrapping_add_u64(total, taken as u64);
+        w = r.walker;
+    }
+    total
 }

@@ -1,5 +1,4 @@
 // The names of the fields that WARC 1.1 defines.
-use leaves::lines;
 use leaves::names::same_name;
 ghost use mathlib.Core.Path.{_≡_};
 ghost use Prim.Native.Nat.{_≤_};

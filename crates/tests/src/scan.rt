@@ -1,6 +1,5 @@
 // One pass over the lines of a block, which keeps nothing but the number of fields left.
 use crate::texts;
-use leaves::lines;
 ghost use mathlib.Core.Path.{_≡_};
 ghost use mathlib.Core.List.{_∷_, []};
 ghost use Prim.Native.Nat.{_≤_};

@@ -1,5 +1,4 @@
 // Clean texts: keys, values and status lines.
-use leaves::lines;
 use leaves::trims;
 ghost use mathlib.Core.Path.{_≡_};
 ghost use mathlib.Core.Option.{some};

@@ -9,8 +9,8 @@ use lib.ListN.{length, length-append}
 use lib.Seq.{take-at, drop-at, drop-append-seam}
 use Rattle.leaves.specs.Choice.{or-left, or-right, if-true, if-false}
 use Rattle.leaves.specs.Octets.{has}
-use Rattle.leaves.specs.Line.{endsLine, crBefore, taking, further}
-use Rattle.leaves.specs.declared.lines.Took.the-variants.{Line}
+use Rattle.lines.specs.Line.{endsLine, crBefore, taking, further}
+use Rattle.lines.specs.declared.Took.the-variants.{Line}
 use Rattle.folds.specs.Rule.{endsBlock}
 use Rattle.reader.specs.Reading.{Rules, Found, Reading, closed, ruled, lined, fed}
 use Rattle.reader.specs.declared.Answer.the-variants.{More, Blank}

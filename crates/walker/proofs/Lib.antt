@@ -1,2 +1,1 @@
-pub mod FedLaws
 pub mod WalkLaws

@@ -12,7 +12,7 @@ use lib.Seq.{drop-cons}
 use Rattle.leaves.specs.Choice.{if_then_else_, if-true, if-false}
 use Rattle.leaves.specs.declared.refusals.Refusal.{Refusal}
 use Rattle.leaves.specs.declared.refusals.Refusal.the-variants.{BadMap, BadTrailer, TooFar}
-use Rattle.maps.specs.Good.{checked, unless}
+use Rattle.maps.specs.Good.{defaultLimit, checked, unless}
 use Rattle.maps.specs.Maps.{empty, Given, Is}
 use Rattle.maps.specs.declared.Phase.the-variants.{Reading, Done}
 use Rattle.maps.specs.declared.HeaderMap.{HeaderMap}
@@ -22,7 +22,8 @@ use Rattle.reader.specs.Calls.{checkedRooms, beginning, makes, feeding}
 use Rattle.reader.specs.declared.Fed.{Fed}
 use Rattle.leaves.proofs.PasteLaws.{tail-all}
 use Rattle.reader.specs.declared.Made.{Made}
-use Rattle.walker.specs.Walk.{trailer, trailerWalked, restWalked, fresh, stopsInside, headerMore, headerBy, headerGives, headerRead, betweenWalked, headerWalked, defaultLimit, emptied, walked, stands, stopsAt, keeps, starting, readyAt, checkedWalker, allowed, bodyWalked, common, onward, trailerStage, trailerEnded, resting, stageEnded, walkedOn, stageWalked, walking, ending}
+use Rattle.openings.specs.Opening.{longest}
+use Rattle.walker.specs.Walk.{furthest, trailer, trailerWalked, restWalked, fresh, stopsInside, headerMore, headerBy, headerGives, headerRead, betweenWalked, headerWalked, emptied, walked, stands, stopsAt, keeps, starting, readyAt, checkedWalker, allowed, bodyWalked, common, onward, trailerStage, trailerEnded, resting, stageEnded, walkedOn, stageWalked, walking, ending}
 use Rattle.walker.specs.declared.Stage.{Stage}
 use Rattle.walker.specs.declared.Stage.the-variants.{Between, Header, Body, Stopped}
 use Rattle.walker.specs.declared.Resting.{Resting}
@@ -33,11 +34,11 @@ use Rattle.walker.specs.declared.Walked.{Walked}
 
 -- the octets that may be taken
 module _ (position n : ℕ) where
-  pub allowed-before : position < 4611686018427387904 → (r : ℕ) → r ≡ min n (4611686018427387904 - position) → r ≡ allowed position n
+  pub allowed-before : position < furthest → (r : ℕ) → r ≡ min n (furthest - position) → r ≡ allowed position n
   unfolding allowed
   allowed-before h r e = e
 
-  pub allowed-behind : 4611686018427387904 ≤ position → 0 ≡ allowed position n
+  pub allowed-behind : furthest ≤ position → 0 ≡ allowed position n
   unfolding allowed
   allowed-behind h = omega arith
 
@@ -51,11 +52,11 @@ module _ (position n : ℕ) where
 
 -- the first checks
 module _ (w : Walker) (b s : ℕ) where
-  pub rest-over : 1099511627776 < w .rest → Bad BadMap ≡ checkedWalker w b s
+  pub rest-over : longest < w .rest → Bad BadMap ≡ checkedWalker w b s
   unfolding checkedWalker
   rest-over h = sym (if-true _ _ (lt-ltb _ _ h))
 
-  pub rest-fine : w .rest ≤ 1099511627776 → (r : Bool) → r ≡ readyAt (w .stage) (w .map .phase) → (c : Checked) → c ≡ checked r (w .map) b s → c ≡ checkedWalker w b s
+  pub rest-fine : w .rest ≤ longest → (r : Bool) → r ≡ readyAt (w .stage) (w .map .phase) → (c : Checked) → c ≡ checked r (w .map) b s → c ≡ checkedWalker w b s
   unfolding checkedWalker
   rest-fine h r e c f = f ∙ ap (λ (t : Bool). checked t (w .map) b s) e ∙ sym (if-false _ _ (le-ltb _ _ h))
 
@@ -206,7 +207,7 @@ pub common-start : (x y : List ℕ) → common x y ≡ 0 + common x y
 common-start x y = omega arith
 
 pub common-allowed : (position : ℕ) → position ≤ 18446744073709551615 → (p : List ℕ) (past : ℕ) → past ≤ 4 → (k : ℕ) → k ≡ allowed position (length p)
-    → (same : ℕ) → same ≡ common (drop past trailer) (take k p) → (position + same ≤ 18446744073709551615) × (past + same ≤ 4)
+    → (same : ℕ) → same ≡ common (drop past trailer) (take k p) → (position + k ≤ 18446744073709551615) × (same ≤ k) × (past + same ≤ 4)
 common-allowed position g p past h k e same f =
     let c = common-within (drop past trailer) (take k p) in
     let u : common (drop past trailer) (take k p) ≤ length (drop past trailer) = c .0 in
@@ -214,7 +215,7 @@ common-allowed position g p past h k e same f =
     let l : length (drop past trailer) ≡ 4 - past = length-drop past trailer in
     let t = length-take k p in
     let a = allowed-all position (length p) g k e in
-    (omega (arith, v, f, t, a), omega (arith, u, f, l))
+    (a, omega (arith, v, f, t), omega (arith, u, f, l))
 
 pub trailer-walks : (w : Walker) (past : ℕ) (p : List ℕ) (k : ℕ) → k ≡ allowed (w .position) (length p)
     → (same : ℕ) → same ≡ common (drop past trailer) (take k p) → trailerEnded w past k (length p) same ≡ trailerWalked w past p

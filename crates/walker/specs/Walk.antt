@@ -7,7 +7,7 @@ use lib.ListN.{length, take, drop}
 use Rattle.leaves.specs.Choice.{if_then_else_}
 use Rattle.leaves.specs.declared.refusals.Refusal.{Refusal}
 use Rattle.leaves.specs.declared.refusals.Refusal.the-variants.{BadMap, BadTrailer, CutShort, TooFar}
-use Rattle.maps.specs.Good.{checked, unless, isReading, isDone}
+use Rattle.maps.specs.Good.{defaultLimit, checked, unless, isReading, isDone}
 use Rattle.maps.specs.Maps.{empty, Given}
 use Rattle.maps.specs.declared.HeaderMap.{HeaderMap}
 use Rattle.maps.specs.declared.Phase.{Phase}
@@ -18,7 +18,7 @@ use Rattle.reader.specs.Calls.{checkedRooms, feeding}
 use Rattle.reader.specs.declared.Fed.{Fed}
 use Rattle.reader.specs.declared.Answer.{Answer}
 use Rattle.reader.specs.declared.Answer.the-variants.{More as FedMore, Blank, Input, Refused as FedRefused}
-use Rattle.openings.specs.Opening.{cap, opening}
+use Rattle.openings.specs.Opening.{longest, opening}
 use Rattle.openings.specs.declared.Opening.{Opening}
 use Rattle.openings.specs.declared.Opening.the-variants.{Record as Opens, Refused as Shut}
 use Rattle.walker.specs.declared.Stage.{Stage}
@@ -33,10 +33,6 @@ use Rattle.walker.specs.declared.Walked.{Walked}
 -- "an octet at position 2^62 or later"
 abbrev pub furthest : ℕ
 furthest = 4611686018427387904
-
--- "Header (default limit, status expected, no quirks)"
-abbrev pub defaultLimit : ℕ
-defaultLimit = 32768
 
 -- "CR LF CR LF"
 abbrev pub trailer : List ℕ
@@ -103,7 +99,7 @@ readyAt (Stopped e) phase = isDone phase
 
 -- "else a walker call first checks 3, 2, 7"; 3 is given for "a walker's body rest over 10's cap" too
 unfoldable pub checkedWalker : Walker → ℕ → ℕ → Checked
-checkedWalker w b s = if ltb cap (w .rest) then Bad BadMap else checked (readyAt (w .stage) (w .map .phase)) (w .map) b s
+checkedWalker w b s = if ltb longest (w .rest) then Bad BadMap else checked (readyAt (w .stage) (w .map .phase)) (w .map) b s
 
 -- by the two sentences above
 abbrev pub unlessResting {ℓ} : {A : Type ℓ} → Resting → (Step → A) → A → A

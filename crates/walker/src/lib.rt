@@ -11,7 +11,9 @@ ghost use Prim.Native.Nat.{_+_, _≤_, min};
 ghost use lib.ListN.{length, take, drop};
 ghost use Rattle.maps.specs.Maps.{Is};
 ghost use Rattle.openings.specs.Opening.{opening as openingOf};
-ghost use Rattle.walker.specs.Walk.{stands as standing, stopsAt, stopsInside, emptied as emptiedMap, fresh as freshMap, starting, resting, readyAt, checkedWalker, allowed as allowedOf, bodyWalked, common as commonOf, trailerStage, trailerEnded, trailerWalked, walked as walkedTo, headerMore, openedAt, headerBy, headerRead, restWalked, betweenWalked, headerWalked, walkedOn, walking, stageEnded, ending};
+ghost use Rattle.walker.specs.declared.Stage.the-variants.{Stopped};
+ghost use Rattle.walker.specs.declared.Step.the-variants.{Refused};
+ghost use Rattle.walker.specs.Walk.{stands as standing, stopsAt, stopsInside, emptied as emptiedMap, fresh as freshMap, starting, resting, readyAt, checkedWalker, allowed as allowedOf, bodyWalked, common as commonOf, onward as onwardTo, trailerStage, trailerEnded, trailerWalked, walked as walkedTo, headerMore, openedAt, headerBy, headerRead, restWalked, betweenWalked, headerWalked, walkedOn, walking, stageEnded, ending};
 
 // The first position that is too far.
 pub const FURTHEST: u64 = 4611686018427387904;
@@ -297,59 +299,47 @@ fn trailer_stage(k: usize) -> Stage
     Stage::LastLf
 }
 
-// The trailer from its octet number past on, of which the piece has the octets same in common, of k that may be taken.
-fn end_trailer(w: Walker, past: usize, k: usize, n: usize, same: usize) -> Walked
-    requires { ⌜ (w .position + same ≤ 18446744073709551615) × (past + same ≤ 4) ⌝ }
-    ensures { λ r. ⌜ r ≡ trailerEnded w past k n same ⌝ }
+// A walker n octets further on.
+fn onward(w: Walker, stage: Stage, n: usize, step: Step) -> Walked
+    requires { ⌜ w .position + n ≤ 18446744073709551615 ⌝ }
+    ensures { λ r. ⌜ r ≡ onwardTo w stage n step ⌝ }
 {
-    let position = w.position + (same as u64);
-    if past + same == 4 {
-        let walker = Walker {
-            position,
-            stage: Stage::Between,
-            ..w
-        };
-        return Walked {
-            walker,
-            taken: same,
-            step: Step::More,
-        };
-    }
-    if same < k {
-        let walker = Walker {
-            position,
-            stage: Stage::Stopped(Refusal::BadTrailer),
-            ..w
-        };
-        return Walked {
-            walker,
-            taken: same,
-            step: Step::Refused(Refusal::BadTrailer),
-        };
-    }
-    if k < n {
-        let walker = Walker {
-            position,
-            stage: Stage::Stopped(Refusal::TooFar),
-            ..w
-        };
-        return Walked {
-            walker,
-            taken: same,
-            step: Step::Refused(Refusal::TooFar),
-        };
-    }
-    let stage = trailer_stage(past + same);
     let walker = Walker {
-        position,
+        position: w.position + (n as u64),
         stage,
         ..w
     };
     Walked {
         walker,
-        taken: same,
-        step: Step::More,
+        taken: n,
+        step,
     }
+}
+
+// The same, stopped there.
+fn halt(w: Walker, e: Refusal, n: usize) -> Walked
+    requires { ⌜ w .position + n ≤ 18446744073709551615 ⌝ }
+    ensures { λ r. ⌜ r ≡ onwardTo w (Stopped e) n (Refused e) ⌝ }
+{
+    onward(w, Stage::Stopped(e), n, Step::Refused(e))
+}
+
+// The trailer from its octet number past on, of which the piece has the octets same in common, of k that may be taken.
+fn end_trailer(w: Walker, past: usize, k: usize, n: usize, same: usize) -> Walked
+    requires { ⌜ (w .position + k ≤ 18446744073709551615) × (same ≤ k) × (past + same ≤ 4) ⌝ }
+    ensures { λ r. ⌜ r ≡ trailerEnded w past k n same ⌝ }
+{
+    if past + same == 4 {
+        return onward(w, Stage::Between, same, Step::More);
+    }
+    if same < k {
+        return halt(w, Refusal::BadTrailer, same);
+    }
+    if k < n {
+        return halt(w, Refusal::TooFar, same);
+    }
+    let stage = trailer_stage(past + same);
+    onward(w, stage, same, Step::More)
 }
 
 // How many octets of the first k of a piece the trailer wants, from its octet number past on.

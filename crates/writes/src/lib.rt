@@ -1,5 +1,4 @@
 // The written form of a map, written into an output that the caller lends.
-use leaves::lines;
 use leaves::refusals::Refusal;
 use maps::Checked;
 use maps::Field;

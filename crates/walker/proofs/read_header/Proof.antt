@@ -1,5 +1,5 @@
 -- `walker::read_header` meets its contract. Assumes nothing.
-use Rattle.walker.proofs.FedLaws.{fed-fits}
+use Rattle.reader.proofs.FedLaws.{fed-fits}
 use Rattle.walker.proofs.WalkLaws.{header-reads}
 use borrow.Author.Needs.{needs}
 use Rattle.walker.proofs.read_header.Statement.{statement}

@@ -3,15 +3,10 @@ use Rattle.leaves.proofs.PasteLaws.{part-back}
 use borrow.Author.Needs.{needs}
 use Rattle.writes.proofs.put.Statement.{statement}
 use Rattle.writes.proofs.put.Tie as tie
-use Rattle.writes.proofs.put.Reads as reads
-use Rattle.writes.proofs.put.Lts as lts
-use Rattle.leaves.proofs.lines.copy_in.Reads as copy-in-reads
-use borrow.Author.Needs.{needs}
 use native.Mathlib.Omega.{arith}
-use mathlib.Core.Path.{_≡_, refl, sym, ap, _∙_}
-use mathlib.Core.Bool.{true, false}
-use Prim.Native.Nat.{ℕ, suc, _+_, _-_, _≤_, _<_}
-use lib.ListN.{length, getD, take, drop}
+use mathlib.Core.Path.{refl}
+use Prim.Native.Nat.{_+_, _-_}
+use lib.ListN.{length}
 
 add-end : tie.Need-add-end
 add-end c = search needs

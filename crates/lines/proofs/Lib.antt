@@ -1,0 +1,4 @@
+pub mod ScanLaws
+pub mod EndLaws
+pub mod LineLaws
+pub mod TightLaws
