@@ -12,9 +12,9 @@ use Rattle.maps.specs.Maps.{empty, Given}
 use Rattle.maps.specs.declared.Phase.the-variants.{Reading as Open, Done}
 use Rattle.maps.specs.declared.HeaderMap.{HeaderMap}
 use Rattle.maps.specs.declared.Checked.the-variants.{Fine}
-use Rattle.maps.proofs.GoodLaws.{checked-fine, goes-on, not-refused}
+use Rattle.maps.proofs.GoodLaws.{checked-fine, goes-on}
 use Rattle.reader.specs.Reading.{Rules, Reading, fed}
-use Rattle.reader.specs.Calls.{mapOf, gives, feeding, beginning, firstRooms, checkedRooms}
+use Rattle.reader.specs.Calls.{mapOf, gives, feeding, beginning, checkedRooms}
 use Rattle.reader.specs.declared.Answer.{Answer}
 use Rattle.reader.specs.declared.Answer.the-variants.{Blank}
 use Rattle.reader.specs.declared.Fed.{Fed}
@@ -24,7 +24,7 @@ use Rattle.writes.specs.Written.{rebuilt}
 use Rattle.tidy.specs.Clean.{clean, expects, begun, said, Gives}
 use Rattle.tidy.proofs.ReadsBack.{back}
 use Rattle.tidy.proofs.MapSays.{map-says}
-use Rattle.demands.specs.Kept.{Sound, fed-later, good-empty}
+use Rattle.demands.specs.Kept.{Sound, rooms-passed, fed-later, good-empty}
 use Rattle.demands.specs.Cut.{feedings, joined, fed-goes, cut}
 
 -- a feed that ended at the blank line of the block t, took all of it, and left a map that says x
@@ -36,13 +36,7 @@ pub record Reads (t : List ℕ) (x : Said) (g : Given Fed) : Type 0 where
 -- rooms and loans that begin takes
 module _ (limit room : ℕ) (b s : List ℕ) (fine : Fine ≡ checkedRooms limit room (length b) (length s)) where
   pub both-fine : (goodRooms limit room ≡ true) × ((leb limit (length b) && leb room (length s)) ≡ true)
-  unfolding checkedRooms
-  both-fine = choose (goodRooms limit room) (leb limit (length b) && leb room (length s)) fine
-    where
-      choose : (g l : Bool) → Fine ≡ firstRooms g l → (g ≡ true) × (l ≡ true)
-      choose true true e = (refl, refl)
-      choose true false e = not-refused _ e
-      choose false l e = not-refused _ e
+  both-fine = rooms-passed limit room (length b) (length s) fine
 
   module _ (m : HeaderMap) (status quirks : Bool) where
     abbrev begins : HeaderMap

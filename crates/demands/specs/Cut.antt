@@ -70,7 +70,7 @@ then-same f g h Input d = refl
 then-same f g h (Refused x) d = refl
 
 -- a reading that goes on, laid into a map and its loans, is read from them again
-read-again : (m : HeaderMap) (b s : List ℕ) (r : Reading) (p : Phase) → r .answer ≡ More
+pub read-again : (m : HeaderMap) (b s : List ℕ) (r : Reading) (p : Phase) → r .answer ≡ More
     → readingOf (mapAt p (r .found .awaits) (m .quirks) m r) (lay b (r .block)) (lay s (r .found .store)) ≡ r
 read-again m b s r p e =
     rw (lay-take b (r .block), lay-take s (r .found .store), lay-take (m .table) (r .found .fields), ← e)

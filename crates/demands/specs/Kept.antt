@@ -10,6 +10,7 @@ use lib.ListN.{length, take, length-append, length-take}
 use lib.Seq.{length-take-le}
 use Rattle.leaves.specs.Choice.{by-if, and-both}
 use Rattle.leaves.specs.Paste.{lay}
+use Rattle.leaves.specs.declared.refusals.Refusal.the-variants.{BadRooms, ShortLoan}
 use Rattle.maps.specs.Places.{lastOf, noField}
 use Rattle.maps.specs.Good.{Fits, in-block, in-store, FitAll, fit-more, FitStatus, fit-absent, fit-at, Ready, goodPlace, goodStatus, goodField, goodFields, goodRooms, goodCounts, good, lent}
 use Rattle.maps.specs.Maps.{empty}
@@ -18,10 +19,12 @@ use Rattle.maps.specs.declared.Place.{Place}
 use Rattle.maps.specs.declared.Status.{Status}
 use Rattle.maps.specs.declared.Phase.{Phase}
 use Rattle.maps.specs.declared.HeaderMap.{HeaderMap}
+use Rattle.maps.specs.declared.Checked.the-variants.{Fine as Passes}
+use Rattle.maps.proofs.GoodLaws.{not-refused}
 use Rattle.folds.specs.declared.Change.{Change}
 use Rattle.folds.specs.declared.Change.the-variants.{Nothing, Status as Headed, Put, Refused as Stops}
 use Rattle.reader.specs.Reading.{Rules, Reading, lined, ruled, closed, put, step, fed, finished}
-use Rattle.reader.specs.Calls.{rulesOf, readingOf, mapAt, mapOf}
+use Rattle.reader.specs.Calls.{firstRooms, checkedRooms, rulesOf, readingOf, mapAt, mapOf}
 use Rattle.reader.specs.declared.Answer.{Answer}
 use Rattle.reader.specs.declared.Answer.the-variants.{More, Blank, Input, Refused}
 use Rattle.reader.proofs.FitLaws.{all-mono, status-mono, all-snoc, all-take, all-get, FineC, Fine, rule4-fine}
@@ -166,6 +169,16 @@ module _ (count mark : ℕ) where
       and-both (goodField count mark x) (goodFields count mark xs)
       (and-both (goodPlace count mark (x .key)) (goodPlace count mark (x .value)) (fits-place (x .key) (h .key)) (fits-place (x .value) (h .value)))
       (fit-fields xs r)
+
+rooms-pass : (g l : Bool) → Passes ≡ firstRooms g l → (g ≡ true) × (l ≡ true)
+rooms-pass false l e = not-refused BadRooms e
+rooms-pass true false e = not-refused ShortLoan e
+rooms-pass true true e = (refl, refl)
+
+-- rooms and loans that begin and a walker's start do not refuse
+pub rooms-passed : (limit room b s : ℕ) → Passes ≡ checkedRooms limit room b s → (goodRooms limit room ≡ true) × ((leb limit b && leb room s) ≡ true)
+unfolding checkedRooms
+rooms-passed limit room b s e = rooms-pass (goodRooms limit room) (leb limit b && leb room s) e
 
 module _ (limit room : ℕ) (rooms : goodRooms limit room ≡ true) where
   pub good-empty : (t : List Field) (aw qu : Bool) (p : Phase) → good (empty t limit room aw qu p) ≡ true

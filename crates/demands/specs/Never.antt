@@ -8,7 +8,7 @@ use lib.Dec.{leb}
 use lib.ListN.{length, drop}
 use Rattle.leaves.specs.Paste.{lay}
 use Rattle.leaves.specs.declared.refusals.Refusal.{Refusal}
-use Rattle.leaves.specs.declared.refusals.Refusal.the-variants.{StoreFull, BadRooms, ShortLoan}
+use Rattle.leaves.specs.declared.refusals.Refusal.the-variants.{StoreFull}
 use Rattle.maps.specs.Places.{lastOf}
 use Rattle.maps.specs.Good.{Ready, good, goodRooms, isReading, checked, checkedReading, checkedDone}
 use Rattle.maps.specs.Maps.{empty, Given}
@@ -19,14 +19,14 @@ use Rattle.maps.specs.declared.Checked.{Checked}
 use Rattle.maps.specs.declared.Checked.the-variants.{Fine, Refused as Refuses}
 use Rattle.maps.proofs.GoodLaws.{ready-of, checked-fine, goes-on, refused-by, not-refused}
 use Rattle.reader.specs.Reading.{Reading, fed, finished}
-use Rattle.reader.specs.Calls.{rulesOf, readingOf, mapOf, gives, makes, feeding, finishing, clearing, firstRooms, checkedRooms, beginning}
+use Rattle.reader.specs.Calls.{rulesOf, readingOf, mapOf, gives, makes, feeding, finishing, clearing, checkedRooms, beginning}
 use Rattle.reader.specs.declared.Answer.{Answer}
 use Rattle.reader.specs.declared.Answer.the-variants.{More, Blank, Input, Refused}
 use Rattle.reader.specs.declared.Fed.{Fed}
 use Rattle.reader.specs.declared.Made.{Made}
 use Rattle.reader.proofs.FinishLaws.{feeding-stops, finishing-stops, clearing-goes, clearing-stops}
 use Rattle.demands.specs.Laid.{lay-rest}
-use Rattle.demands.specs.Kept.{Sound, fed-later, finished-later, sound-of, good-empty, good-of, lent-of, rooms-of}
+use Rattle.demands.specs.Kept.{Sound, rooms-passed, fed-later, finished-later, sound-of, good-empty, good-of, lent-of, rooms-of}
 use Rattle.demands.specs.Cut.{fed-goes, finish-goes, read-whole, feedings, readings, joined, cut, cut-finish}
 use Rattle.demands.specs.Thrift.{numbered, Thrifty, fed-thrifty, finished-thrifty, owes-mark}
 
@@ -140,11 +140,6 @@ module _ (t : List Field) (limit room : ℕ) (awaits quirks : Bool) (b s : List 
       (within _ (finished-later (rulesOf m) r (fed-later (rulesOf m) (readingOf m b s) (joined ps) (sound-of m b s ready) .sound) .sound)
       (finished-thrifty (rulesOf m) roomy r (fed-thrifty (rulesOf m) roomy (readingOf m b s) (joined ps) fresh-thrifty)))
 
-rooms-pass : (g l : Bool) → Fine ≡ firstRooms g l → (g ≡ true) × (l ≡ true)
-rooms-pass false l e = not-refused BadRooms e
-rooms-pass true false e = not-refused ShortLoan e
-rooms-pass true true e = (refl, refl)
-
 -- begin on any map, with any rooms, flags and loans, that is not refused
 module _ (m₀ : HeaderMap) (limit room : ℕ) (awaits quirks : Bool) (b s : List ℕ) where
   abbrev begun : Given Made
@@ -166,8 +161,7 @@ module _ (m₀ : HeaderMap) (limit room : ℕ) (awaits quirks : Bool) (b s : Lis
       choose (Refuses x) e = not-refused x (sym h ∙ ap (λ (g : Given Made). g .result .answer) (begin-stops x e))
 
   passed : begun .result .answer ≡ Fine → (goodRooms limit room ≡ true) × ((leb limit (length b) && leb room (length s)) ≡ true)
-  unfolding checkedRooms
-  passed h = rooms-pass (goodRooms limit room) (leb limit (length b) && leb room (length s)) (rooms-fine h)
+  passed h = rooms-passed limit room (length b) (length s) (rooms-fine h)
 
   pub begin-good : begun .result .answer ≡ Fine → good (begun .result .map) ≡ true
   begin-good h =

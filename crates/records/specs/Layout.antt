@@ -1,12 +1,13 @@
 -- What a WARC file holds, from its layout: "Header (default limit, status expected, no quirks), body of Content-Length octets, CR LF CR LF,
 -- again." Assumes nothing.
-use mathlib.Core.Bool.{true}
+use mathlib.Core.Bool.{true, false}
 use mathlib.Core.List.{List, [], _∷_}
 use Prim.Native.Nat.{ℕ, zero, suc, _+_}
 use lib.Dec.{eqb, leb}
 use Rattle.leaves.specs.Choice.{if_then_else_}
 use Rattle.leaves.specs.declared.refusals.Refusal.{Refusal}
 use Rattle.leaves.specs.declared.refusals.Refusal.the-variants.{BadTrailer, CutShort, TooFar}
+use Rattle.maps.specs.Good.{defaultLimit}
 use Rattle.reader.specs.Reading.{Rules, Reading, step}
 use Rattle.reader.specs.declared.Answer.{Answer}
 use Rattle.reader.specs.declared.Answer.the-variants.{More, Blank, Input, Refused}
@@ -16,6 +17,10 @@ use Rattle.openings.specs.Opening.{opened}
 use Rattle.openings.specs.declared.Opening.{Opening}
 use Rattle.openings.specs.declared.Opening.the-variants.{Record as Opens, Refused as Shut}
 use Rattle.walker.specs.Walk.{furthest, trailer}
+
+-- "Header (default limit, status expected, no quirks)"
+abbrev pub headerRules : ℕ → Rules
+headerRules room = record { limit = defaultLimit; room = room; quirks = false }
 
 -- "records (start, body offset, length, type, fields)", the fields with the status line
 pub record Listed : Type 0 where

@@ -9,7 +9,7 @@ use Rattle.walker.specs.declared.Step.{Step}
 use Rattle.walker.specs.declared.Step.the-variants.{More, Record, Body, End, Refused}
 use Rattle.walker.specs.declared.Walker.{Walker}
 use Rattle.walker.specs.declared.Walked.{Walked}
-use Rattle.records.specs.Layout.{Listed, Sign, record-begun, body-octet, file-end, stopped-by}
+use Rattle.records.specs.Layout.{Sign, record-begun, body-octet, file-end, stopped-by}
 
 -- what a call on a piece tells; "a body part of the piece"
 abbrev pub telling : Step → Given Walked → List ℕ → List Sign
