@@ -6,7 +6,9 @@ pub mod Never
 pub mod Untouched
 pub mod Coincide
 pub mod Marked
+pub mod BegunReads
 pub mod Back
+pub mod GrammarReads
 pub mod CallSays
 pub mod RebuildsAlike
 pub mod OneTidy

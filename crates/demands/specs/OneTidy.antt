@@ -21,7 +21,7 @@ use Rattle.tidy.proofs.TidyBlocks.{tidy-rebuilds, clean-tidy, tidy-flags}
 use Rattle.tests.specs.Tests.{answer, rules, tidying}
 use Rattle.tests.specs.declared.Test.the-variants.{Yes}
 use Rattle.tests.specs.Tests.{cleaning}
-use Rattle.demands.specs.Back.{Reads, both-fine, begunRules, fedBegun, fed-begun, sound-begun, blank-says}
+use Rattle.demands.specs.BegunReads.{Reads, both-fine, begunRules, fedBegun, fed-begun, sound-begun, blank-says}
 use Rattle.demands.specs.CallSays.{answered-yes, clean-says}
 
 tidy-goes : (t : List ℕ) (status quirks : Bool) (limit : ℕ) → limit ≤ 65536 → tidying t status quirks limit ≡ answer (tidy (rules limit quirks) status t)
