@@ -11,7 +11,7 @@ use lib.ListN.{length, getD, take, drop, length-take}
 use Rattle.leaves.specs.Choice.{if_then_else_, by-if}
 use Rattle.leaves.specs.Number.{decimal, isDecimal, contentLength}
 use Rattle.leaves.specs.Octets.{octets, before, sameList}
-use Rattle.equals.proofs.OctetLaws.{apart}
+use Rattle.leaves.proofs.NameLaws.{apart}
 use Rattle.codes.specs.declared.line.Code.{Code}
 use Rattle.codes.specs.declared.line.Code.the-variants.{None}
 use Rattle.codes.specs.declared.line.Start.the-variants.{At, None as NoStart}

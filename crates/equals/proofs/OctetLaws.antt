@@ -1,22 +1,13 @@
 -- Laws of texts compared octet by octet. Assumes nothing.
-use mathlib.Core.Path.{_≡_, refl, ap}
+use mathlib.Core.Path.{_≡_}
 use mathlib.Core.Bool.{Bool, true, false}
-use mathlib.Core.List.{List, [], _∷_}
-use Prim.Native.Nat.{ℕ, suc, _+_, _-_, _≤_, _<_}
+use mathlib.Core.List.{List}
+use Prim.Native.Nat.{ℕ, _+_, _-_, _≤_, _<_}
 use native.Mathlib.Numerals.{add-one}
 use borrow.Author.Tests.{eq-eqb, ne-eqb}
-use lib.Dec.{eqb}
 use lib.ListN.{length, getD, drop, drop-of-length-le}
 use lib.Seq.{drop-cons}
 use Rattle.leaves.specs.Octets.{sameList}
-use Rattle.leaves.specs.Choice.{and-false}
-
-pub apart : (a b : List ℕ) → (length a ≡ length b → ⊥) → sameList a b ≡ false
-unfolding sameList
-apart [] [] h = absurd (h refl)
-apart [] (y ∷ ys) h = refl
-apart (x ∷ xs) [] h = refl
-apart (x ∷ xs) (y ∷ ys) h = and-false (eqb x y) _ (apart xs ys (λ e. h (ap suc e)))
 
 module _ (a b : List ℕ) (i : ℕ) where
   pub same-more : i < length a → i < length b → getD a i 0 ≡ getD b i 0 → sameList (drop i a) (drop i b) ≡ sameList (drop (i + 1) a) (drop (i + 1) b)

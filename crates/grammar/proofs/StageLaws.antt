@@ -8,7 +8,7 @@ use native.Mathlib.Omega.{arith}
 use lib.ListN.{length, getD, take, drop, drop-of-length-le, length-take}
 use lib.Seq.{drop-cons}
 use Rattle.leaves.specs.Octets.{octets, sameList}
-use Rattle.equals.proofs.OctetLaws.{apart}
+use Rattle.leaves.proofs.NameLaws.{apart}
 use Rattle.grammar.specs.declared.Stage.{Stage}
 use Rattle.grammar.specs.declared.Stage.the-variants.{First}
 use Rattle.grammar.specs.Walk.{next, isOver, walk, isVersion, grammatical}

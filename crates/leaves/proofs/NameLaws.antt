@@ -28,6 +28,14 @@ same-list-eq (x ∷ xs) (y ∷ ys) e =
     let q : xs ≡ ys = same-list-eq xs ys (and-right (eqb x y) (sameList xs ys) e) in
     rw (p, q)
 
+-- texts of different lengths are not the same
+pub apart : (a b : List ℕ) → (length a ≡ length b → ⊥) → sameList a b ≡ false
+unfolding sameList
+apart [] [] h = absurd (h refl)
+apart [] (y ∷ ys) h = refl
+apart (x ∷ xs) [] h = refl
+apart (x ∷ xs) (y ∷ ys) h = and-false (eqb x y) _ (apart xs ys (λ e. h (ap suc e)))
+
 pub same-apart : (a b : List ℕ) → (length a ≡ length b → ⊥) → sameName a b ≡ false
 unfolding sameList
 same-apart [] [] h = absurd (h refl)

@@ -17,14 +17,6 @@ use Rattle.leaves.proofs.SearchLaws.{has-near, has-far}
 use Rattle.tidy.specs.Clean.{neat, filled, cleanPair, cleanStatus}
 use Rattle.tests.specs.Keys.{cleanKey}
 
--- texts of different lengths are not the same
-pub apart : (a b : List ℕ) → (length a ≡ length b → ⊥) → sameList a b ≡ false
-apart a b h = go (sameList a b) refl
-  where
-    go : (t : Bool) → sameList a b ≡ t → t ≡ false
-    go true e = absurd (h (ap length (same-list-eq a b e)))
-    go false e = refl
-
 -- a text holds an octet if its first place is not the end
 pub holds-is : (c : ℕ) (l : List ℕ) → ltb (before c l) (length l) ≡ has c l
 holds-is c l = go (has c l) refl

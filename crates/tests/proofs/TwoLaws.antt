@@ -12,7 +12,7 @@ use lib.Seq.{drop-cons, take-all}
 use Rattle.leaves.specs.Octets.{sameList}
 use Rattle.leaves.proofs.NameLaws.{same-list-eq}
 use Rattle.writes.specs.Written.{crlf}
-use Rattle.tests.proofs.TextLaws.{apart}
+use Rattle.leaves.proofs.NameLaws.{apart}
 
 -- two octets at a place
 module _ (l : List ℕ) (at x y : ℕ) where

@@ -1,6 +1,7 @@
 -- `equals::same_octets` meets its contract. Assumes nothing.
 use Rattle.leaves.specs.Octets.{sameList}
-use Rattle.equals.proofs.OctetLaws.{apart, same-more, same-stop, same-end}
+use Rattle.equals.proofs.OctetLaws.{same-more, same-stop, same-end}
+use Rattle.leaves.proofs.NameLaws.{apart}
 use borrow.Author.Needs.{needs}
 use Rattle.equals.proofs.same_octets.Statement.{statement}
 use Rattle.equals.proofs.same_octets.Tie as tie
