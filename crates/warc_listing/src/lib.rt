@@ -6,15 +6,17 @@ use walker::Walker;
 use warc_tallies::Tally;
 use warc_tallies::report;
 
-// Reads on where all that was read is walked over.
+// Where all that was read is walked over: writes what was listed, and reads on.
 fn fill(fd: i32, path: &[u8], typed: &mut [u8], said: &[u8], t: Tally) -> Tally {
     if t.from < t.to {
         return t;
     }
-    let at = prints::flush(said, t.at);
-    let piece = warc_inputs::read(fd, path, typed);
-    let t = warc_tallies::filled(t, at, piece.end, piece.failed);
-    report::progress(t)
+    if warc_phrases::finish(said, t.at) {
+        let piece = warc_inputs::read(fd, path, typed);
+        let t = warc_tallies::filled(t, piece.end, piece.failed);
+        return report::progress(t);
+    }
+    warc_tallies::unwritten(t)
 }
 
 // One call of the walker: on what was read, or for the end of the file.

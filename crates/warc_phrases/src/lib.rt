@@ -149,15 +149,16 @@ pub fn column(said: &mut [u8], at: usize, s: &[u8]) -> usize {
     octets(said, at, s, b'!')
 }
 
-// Writes what is there to standard output; where that fails, why is said.
-pub fn finish(said: &[u8], at: usize) -> usize {
+// Writes what is there to standard output, and answers whether that went well; if not, why is said.
+pub fn finish(said: &[u8], at: usize) -> bool {
     if at <= said.len() {
         let is_written = io::write_all(libc::STDOUT_FILENO, &said[0..at]);
         if !is_written {
             os::fail(b"standard output");
         }
+        return is_written;
     }
-    0
+    true
 }
 
 // Writes what is there to standard error.

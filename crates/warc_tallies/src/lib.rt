@@ -9,6 +9,7 @@ pub enum Ending {
     Good,
     Stopped(Refusal),
     Unread,
+    Unwritten,
 }
 
 // The octets from `from` before `to` of what was read are not walked over yet; `at` is where in the buffer the next character goes. `good` counts the
@@ -54,14 +55,23 @@ fn read_ending(failed: bool) -> Ending {
     Ending::None
 }
 
-// A piece was read.
-pub fn filled(t: Tally, at: usize, end: usize, failed: bool) -> Tally {
+// What was listed is written, and a piece was read.
+pub fn filled(t: Tally, end: usize, failed: bool) -> Tally {
     Tally {
         from: 0,
         to: end,
-        at,
+        at: 0,
         octets: std::num::wrapping_add_u64(t.octets, long(end)),
         ending: read_ending(failed),
+        ..t
+    }
+}
+
+// What was listed could not be written.
+pub fn unwritten(t: Tally) -> Tally {
+    Tally {
+        at: 0,
+        ending: Ending::Unwritten,
         ..t
     }
 }
@@ -95,11 +105,12 @@ pub fn told_at(t: Tally) -> Tally {
     }
 }
 
-// The walker says no more. A read that failed is the cause of what it said.
+// The walker says no more. Of a read or a write that failed it was not told.
 pub fn ended(t: Tally, ending: Ending) -> Tally {
     let before = t.ending;
     match before {
         Ending::Unread => Tally { over: true, ..t },
+        Ending::Unwritten => Tally { over: true, ..t },
         _ => Tally {
             over: true,
             ending,

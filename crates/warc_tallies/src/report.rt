@@ -84,6 +84,7 @@ pub fn ending(said: &mut [u8], t: Tally) -> usize {
             let b = prints::text(said, a, b"; ");
             before(said, b, t.good, t.whole)
         }
+        Ending::Unwritten => 0,
     }
 }
 
