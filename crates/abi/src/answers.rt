@@ -1,0 +1,174 @@
+// What each call answers, as a number: 0 for done, 1 to 13 for the refusals, the others from 16 on.
+use codes::Kind;
+use codes::Length;
+use codes::line::Code;
+use edits::Edit;
+use equals::Equal;
+use leaves::refusals;
+use leaves::refusals::Refusal;
+use lookups::Found;
+use maps::Checked;
+use reader::Answer;
+use resume::Verdict;
+use tests::Test;
+use walker::Step;
+use writes::Wrote;
+ghost use mathlib.Core.Path.{_≡_};
+ghost use Rattle.leaves.specs.Refusals.{number};
+ghost use Rattle.abi.specs.Answers.{answerOf, checkedOf, editOf, foundOf, wroteOf, equalOf, testOf, codeOf, lengthOf, kindOf, stepOf, startAnswer, verdictOf};
+
+pub const DONE: u32 = 0;
+
+// Octets that are no map's or no walker's.
+pub const DAMAGED: u32 = 3;
+
+pub const MISSING: u32 = 20;
+
+pub const YES: u32 = 21;
+
+pub const NO: u32 = 22;
+
+pub const IN_BLOCK: u32 = 23;
+
+pub const IN_STORE: u32 = 24;
+
+pub fn refused(e: Refusal) -> u32
+    ensures { λ r. ⌜ r ≡ number e ⌝ }
+{
+    let n = refusals::number(e);
+    n as u32
+}
+
+pub fn checked(c: Checked) -> u32
+    ensures { λ r. ⌜ r ≡ checkedOf c ⌝ }
+{
+    match c {
+        Checked::Fine => 0,
+        Checked::Refused(e) => refused(e),
+    }
+}
+
+pub fn read(a: Answer) -> u32
+    ensures { λ r. ⌜ r ≡ answerOf a ⌝ }
+{
+    match a {
+        Answer::More => 16,
+        Answer::Blank => 17,
+        Answer::Input => 18,
+        Answer::Refused(e) => refused(e),
+    }
+}
+
+pub fn edited(e: Edit) -> u32
+    ensures { λ r. ⌜ r ≡ editOf e ⌝ }
+{
+    match e {
+        Edit::Done => 0,
+        Edit::Refused(x) => refused(x),
+    }
+}
+
+pub fn found(f: Found) -> u32
+    ensures { λ r. ⌜ r ≡ foundOf f ⌝ }
+{
+    match f {
+        Found::At(i) => 19,
+        Found::Missing => 20,
+        Found::Refused(e) => refused(e),
+    }
+}
+
+pub fn wrote(w: Wrote) -> u32
+    ensures { λ r. ⌜ r ≡ wroteOf w ⌝ }
+{
+    match w {
+        Wrote::Count(n) => 0,
+        Wrote::Refused(e) => refused(e),
+    }
+}
+
+pub fn compared(e: Equal) -> u32
+    ensures { λ r. ⌜ r ≡ equalOf e ⌝ }
+{
+    match e {
+        Equal::Yes => 21,
+        Equal::No => 22,
+        Equal::Refused(x) => refused(x),
+    }
+}
+
+pub fn tested(t: Test) -> u32
+    ensures { λ r. ⌜ r ≡ testOf t ⌝ }
+{
+    match t {
+        Test::Yes => 21,
+        Test::No => 22,
+        Test::Refused(x) => refused(x),
+    }
+}
+
+pub fn coded(c: Code) -> u32
+    ensures { λ r. ⌜ r ≡ codeOf c ⌝ }
+{
+    match c {
+        Code::Is(n) => 19,
+        Code::None => 20,
+        Code::Refused(x) => refused(x),
+    }
+}
+
+pub fn measured(l: Length) -> u32
+    ensures { λ r. ⌜ r ≡ lengthOf l ⌝ }
+{
+    match l {
+        Length::Is(n) => 19,
+        Length::Missing => 20,
+        Length::Refused(x) => refused(x),
+    }
+}
+
+pub fn typed(k: Kind) -> u32
+    ensures { λ r. ⌜ r ≡ kindOf k ⌝ }
+{
+    match k {
+        Kind::Is(n) => 19,
+        Kind::Refused(x) => refused(x),
+    }
+}
+
+pub fn walked(s: Step) -> u32
+    ensures { λ r. ⌜ r ≡ stepOf s ⌝ }
+{
+    match s {
+        Step::More => 16,
+        Step::Record(a, b, c, d) => 25,
+        Step::Body => 26,
+        Step::End => 27,
+        Step::Refused(e) => refused(e),
+    }
+}
+
+// A walker's start answers 0 or a refusal.
+pub fn started(s: Step) -> u32
+    ensures { λ r. ⌜ r ≡ startAnswer s ⌝ }
+{
+    match s {
+        Step::More => 0,
+        Step::Record(a, b, c, d) => 0,
+        Step::Body => 0,
+        Step::End => 0,
+        Step::Refused(e) => refused(e),
+    }
+}
+
+pub fn judged(v: Verdict) -> u32
+    ensures { λ r. ⌜ r ≡ verdictOf v ⌝ }
+{
+    match v {
+        Verdict::Append => 32,
+        Verdict::NoTag => 33,
+        Verdict::Differ => 34,
+        Verdict::NotPartial => 35,
+        Verdict::Refused(e) => refused(e),
+    }
+}

@@ -1,0 +1,195 @@
+// What a map tells, what tests say of maps and of octets, and the resume check.
+use crate::answers;
+use codes::Kind;
+use codes::Length;
+use codes::line::Code;
+use maps::Checked;
+ghost use mathlib.Core.Path.{_≡_};
+ghost use Rattle.abi.specs.Calls.{Tells, codeNumber, lengthNumber, kindNumber, codeTells, lengthTells, kindTells, cleanTells, tidyTells, grammarTells, equalTells, resumeTells};
+
+fn put_code(c: Code, code: &mut u64)
+    ensures { λ _. ⌜ now (code .exit) ≡ codeNumber c (now (code .entry)) ⌝ }
+{
+    match c {
+        Code::Is(n) => {
+            *code = n as u64;
+        }
+        Code::None => {}
+        Code::Refused(e) => {}
+    }
+}
+
+// The status code.
+#[no_mangle]
+pub extern "C" fn bisquecrow_status_code<'a>(
+    map: &[u8],
+    block: &'a [u8],
+    store: &'a [u8],
+    code: &mut u64,
+) -> u32
+    ensures { λ r. ⌜ Tells (codeTells (now (map .entry)) (now (code .entry)) (now (block .entry)) (now (store .entry))) r (now (code .exit)) ⌝ }
+{
+    if encoded::is_sound(map) {
+        let m = encoded::decode(map);
+        let c = codes::status_code(m, block, store);
+        put_code(c, code);
+        return answers::coded(c);
+    }
+    answers::DAMAGED
+}
+
+fn put_length(l: Length, length: &mut u64)
+    ensures { λ _. ⌜ now (length .exit) ≡ lengthNumber l (now (length .entry)) ⌝ }
+{
+    match l {
+        Length::Is(n) => {
+            *length = n;
+        }
+        Length::Missing => {}
+        Length::Refused(e) => {}
+    }
+}
+
+// The content length of the first field of that name.
+#[no_mangle]
+pub extern "C" fn bisquecrow_content_length<'a>(
+    map: &[u8],
+    block: &'a [u8],
+    store: &'a [u8],
+    length: &mut u64,
+) -> u32
+    ensures { λ r. ⌜ Tells (lengthTells (now (map .entry)) (now (length .entry)) (now (block .entry)) (now (store .entry))) r (now (length .exit)) ⌝ }
+{
+    if encoded::is_sound(map) {
+        let m = encoded::decode(map);
+        let l = codes::content_length(m, block, store);
+        put_length(l, length);
+        return answers::measured(l);
+    }
+    answers::DAMAGED
+}
+
+fn put_type(k: Kind, code: &mut u64)
+    ensures { λ _. ⌜ now (code .exit) ≡ kindNumber k (now (code .entry)) ⌝ }
+{
+    match k {
+        Kind::Is(n) => {
+            *code = n as u64;
+        }
+        Kind::Refused(e) => {}
+    }
+}
+
+// The code of a record's type.
+#[no_mangle]
+pub extern "C" fn bisquecrow_record_type<'a>(
+    map: &[u8],
+    block: &'a [u8],
+    store: &'a [u8],
+    code: &mut u64,
+) -> u32
+    ensures { λ r. ⌜ Tells (kindTells (now (map .entry)) (now (code .entry)) (now (block .entry)) (now (store .entry))) r (now (code .exit)) ⌝ }
+{
+    if encoded::is_sound(map) {
+        let m = encoded::decode(map);
+        let k = codes::record_type(m, block, store);
+        put_type(k, code);
+        return answers::typed(k);
+    }
+    answers::DAMAGED
+}
+
+// Whether what a map says is clean.
+#[no_mangle]
+pub extern "C" fn bisquecrow_clean<'a>(map: &[u8], block: &'a [u8], store: &'a [u8]) -> u32
+    ensures { λ r. ⌜ r ≡ cleanTells (now (map .entry)) (now (block .entry)) (now (store .entry)) ⌝ }
+{
+    if encoded::is_sound(map) {
+        let m = encoded::decode(map);
+        let t = tests::clean(m, block, store);
+        return answers::tested(t);
+    }
+    answers::DAMAGED
+}
+
+// Whether a block is tidy for its flags and limit.
+#[no_mangle]
+pub extern "C" fn bisquecrow_tidy(octets: &[u8], awaits: bool, quirks: bool, limit: usize) -> u32
+    ensures { λ r. ⌜ r ≡ tidyTells (now (octets .entry)) awaits quirks limit ⌝ }
+{
+    let t = tests::tidy(octets, awaits, quirks, limit);
+    answers::tested(t)
+}
+
+// Whether octets are a header by the standard's grammar.
+#[no_mangle]
+pub extern "C" fn bisquecrow_grammatical(octets: &[u8]) -> u32
+    ensures { λ r. ⌜ r ≡ grammarTells (now (octets .entry)) ⌝ }
+{
+    if grammar::grammatical(octets) {
+        return answers::YES;
+    }
+    answers::NO
+}
+
+// Whether two maps say the same. The first is checked whole before the second.
+#[no_mangle]
+pub extern "C" fn bisquecrow_equal<'a>(
+    one: &[u8],
+    block: &'a [u8],
+    store: &'a [u8],
+    two: &[u8],
+    block2: &'a [u8],
+    store2: &'a [u8],
+) -> u32
+    ensures { λ r. ⌜ r ≡ equalTells (now (one .entry)) (now (block .entry)) (now (store .entry)) (now (two .entry)) (now (block2 .entry)) (now (store2 .entry)) ⌝ }
+{
+    if encoded::is_sound(one) {
+        let m = encoded::decode(one);
+        match maps::check_done(m, block, store) {
+            Checked::Fine => {
+                if encoded::is_sound(two) {
+                    let k = encoded::decode(two);
+                    let e = equals::compare(m, block, store, k, block2, store2);
+                    return answers::compared(e);
+                }
+                return answers::DAMAGED;
+            }
+            Checked::Refused(e) => {
+                return answers::refused(e);
+            }
+        }
+    }
+    answers::DAMAGED
+}
+
+// Whether the second message's body may be appended to the first's.
+#[no_mangle]
+pub extern "C" fn bisquecrow_resume<'a>(
+    one: &[u8],
+    block: &'a [u8],
+    store: &'a [u8],
+    two: &[u8],
+    block2: &'a [u8],
+    store2: &'a [u8],
+) -> u32
+    ensures { λ r. ⌜ r ≡ resumeTells (now (one .entry)) (now (block .entry)) (now (store .entry)) (now (two .entry)) (now (block2 .entry)) (now (store2 .entry)) ⌝ }
+{
+    if encoded::is_sound(one) {
+        let m = encoded::decode(one);
+        match maps::check_done(m, block, store) {
+            Checked::Fine => {
+                if encoded::is_sound(two) {
+                    let k = encoded::decode(two);
+                    let v = resume::resume(m, block, store, k, block2, store2);
+                    return answers::judged(v);
+                }
+                return answers::DAMAGED;
+            }
+            Checked::Refused(e) => {
+                return answers::refused(e);
+            }
+        }
+    }
+    answers::DAMAGED
+}

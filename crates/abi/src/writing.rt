@@ -1,0 +1,56 @@
+// Write and rebuild.
+use crate::answers;
+use writes::Wrote;
+ghost use mathlib.Core.Path.{_≡_};
+ghost use Rattle.abi.specs.Calls.{Puts, countNumber, writePuts, rebuildPuts};
+
+fn put_count(w: Wrote, count: &mut u64)
+    ensures { λ _. ⌜ now (count .exit) ≡ countNumber w (now (count .entry)) ⌝ }
+{
+    match w {
+        Wrote::Count(n) => {
+            *count = n as u64;
+        }
+        Wrote::Refused(e) => {}
+    }
+}
+
+// The block as it was read, or the map rebuilt.
+#[no_mangle]
+pub extern "C" fn bisquecrow_write<'a>(
+    map: &[u8],
+    block: &'a [u8],
+    store: &'a [u8],
+    out: &mut [u8],
+    count: &mut u64,
+) -> u32
+    ensures { λ r. ⌜ Puts (writePuts (now (map .entry)) (now (count .entry)) (now (block .entry)) (now (store .entry)) (now (out .entry))) r (now (count .exit)) (now (out .exit)) ⌝ }
+{
+    if encoded::is_sound(map) {
+        let m = encoded::decode(map);
+        let w = writes::write(m, block, store, out);
+        put_count(w, count);
+        return answers::wrote(w);
+    }
+    answers::DAMAGED
+}
+
+// The map rebuilt, whatever it was read from.
+#[no_mangle]
+pub extern "C" fn bisquecrow_rebuild<'a>(
+    map: &[u8],
+    block: &'a [u8],
+    store: &'a [u8],
+    out: &mut [u8],
+    count: &mut u64,
+) -> u32
+    ensures { λ r. ⌜ Puts (rebuildPuts (now (map .entry)) (now (count .entry)) (now (block .entry)) (now (store .entry)) (now (out .entry))) r (now (count .exit)) (now (out .exit)) ⌝ }
+{
+    if encoded::is_sound(map) {
+        let m = encoded::decode(map);
+        let w = writes::rebuild(m, block, store, out);
+        put_count(w, count);
+        return answers::wrote(w);
+    }
+    answers::DAMAGED
+}

@@ -1,0 +1,5 @@
+pub mod Number
+pub mod Tabled
+pub mod Whole
+pub mod Standing
+pub mod Typed
