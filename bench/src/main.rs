@@ -3,7 +3,7 @@
 //!     bench                  a line for each input, cut and side: best nanoseconds of one reading
 //!     bench INPUT CUT SIDE N  N readings of one side, for callgrind; SIDE is rust, ours or none
 //!     bench CALL SIDE N       N of the other calls on the map of the first input
-//!     bench others            one piece: httparse and one copy of the octets, best nanoseconds
+//!     bench others            one piece: this library, httparse and one copy of the octets, best nanoseconds
 //!     bench walks             walking over files of records, beside reading the file and copying it, octets a nanosecond
 use oracle::warc::header::HeaderMap;
 use std::hint::black_box;
@@ -215,7 +215,7 @@ fn httparse_reads(name: &str, text: &[u8]) -> usize {
     answer.headers.len()
 }
 
-fn others() {
+fn others(ours: &mut Ours) {
     let mut copy = vec![0u8; 32768];
     for (name, text) in inputs() {
         let times = 400_000 / text.len() + 1;
@@ -229,7 +229,8 @@ fn others() {
                 black_box(&mut copy)[..text.len()].copy_from_slice(black_box(text));
             }
         });
-        println!("{name} {} {parsed:.0} {copied:.0}", text.len());
+        let read = best(times, || _ = black_box(ours.read(times, text.len(), text)));
+        println!("{name} {} {read:.0} {parsed:.0} {copied:.0}", text.len());
     }
 }
 
@@ -281,7 +282,7 @@ fn main() {
     let mut ours = Ours { block: vec![0; 32768], store: vec![0; 65536] };
     let mut map = HeaderMap::default();
     match args.get(1).map(String::as_str) {
-        Some("others") => return others(),
+        Some("others") => return others(&mut ours),
         Some("walks") => return walks(&mut ours),
         _ => (),
     }
