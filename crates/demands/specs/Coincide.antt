@@ -19,6 +19,7 @@ use Rattle.tests.specs.Tests.{cleaning, tidying}
 use Rattle.grammar.specs.Walk.{grammatical}
 use Rattle.walker.specs.Walk.{starting, walking, ending}
 use Rattle.walker.specs.declared.Walker.{Walker}
+use Rattle.openings.specs.Opening.{opening}
 use Rattle.resume.specs.Resume.{resuming}
 use Rattle.codes.specs.Codes.{coding, reasoning, lengthOf, kindOf, Phrased, phrased-once}
 
@@ -122,6 +123,10 @@ module _ (m : HeaderMap) (b s : List ℕ) where
 
   pub resume-once : (k : HeaderMap) (c z : List ℕ) → OnceTold (resuming m b s k c z)
   resume-once k c z = once-told (resuming m b s k c z)
+
+  -- what a header opens
+  pub open-record-once : OnceTold (opening m b s)
+  open-record-once = once-told (opening m b s)
 
   -- a walker's start
   pub start-once : (room position : ℕ) → Once (starting m room position b s)

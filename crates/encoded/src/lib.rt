@@ -1,6 +1,6 @@
 // Maps and walkers as octets that a caller lends: a map is 6,208 octets, a walker 6,240.
-pub mod numbers;
-pub mod tables;
+mod numbers;
+mod tables;
 pub mod walkers;
 
 use maps::HeaderMap;

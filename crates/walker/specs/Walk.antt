@@ -62,7 +62,7 @@ keeps b s r = record { result = r; block = b; store = s }
 abbrev pub emptied : HeaderMap → HeaderMap
 emptied m = empty (m .table) (m .limit) (m .room) false false Done
 
--- the map that a header is read into
+-- "Header (default limit, status expected, no quirks)": the map that a header is read into
 abbrev pub fresh : HeaderMap → HeaderMap
 fresh m = empty (m .table) (m .limit) (m .room) true false Reading
 
