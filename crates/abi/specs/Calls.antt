@@ -8,6 +8,7 @@ use lib.Dec.{eqb}
 use lib.ListN.{length, set}
 use Rattle.leaves.specs.Choice.{if_then_else_}
 use Rattle.leaves.specs.Refusals.{number}
+use Rattle.leaves.specs.Numbers.{missing, yes, other, inTheBlock, inTheStore}
 use Rattle.maps.specs.Good.{checkedDone, unless}
 use Rattle.maps.specs.Maps.{Given}
 use Rattle.maps.specs.declared.HeaderMap.{HeaderMap}
@@ -43,7 +44,16 @@ use Rattle.walker.specs.declared.Step.the-variants.{More, Record, Body, End, Re
 use Rattle.walker.specs.declared.Walked.{Walked}
 use Rattle.encoded.specs.Whole.{encoded, decoded, sound}
 use Rattle.encoded.specs.Standing.{encodedWalker, decodedWalker, soundWalker}
-use Rattle.abi.specs.Answers.{checkedOf, answerOf, editOf, foundOf, wroteOf, equalOf, testOf, codeOf, lengthOf, kindOf, stepOf, startAnswer, verdictOf}
+use Rattle.maps.specs.Answers.{told as checkedOf}
+use Rattle.reader.specs.Answers.{told as answerOf}
+use Rattle.edits.specs.Answers.{told as editOf}
+use Rattle.lookups.specs.Answers.{told as foundOf}
+use Rattle.writes.specs.Answers.{told as wroteOf}
+use Rattle.equals.specs.Answers.{told as equalOf}
+use Rattle.tests.specs.Answers.{told as testOf}
+use Rattle.codes.specs.Answers.{codeTold as codeOf, lengthTold as lengthOf, kindTold as kindOf}
+use Rattle.walker.specs.Answers.{told as stepOf, startTold as startAnswer}
+use Rattle.resume.specs.Answers.{told as verdictOf}
 
 -- what a call that may change a map gives: its answer, the numbers that it hands out, and all that was lent at its end
 pub record Out : Type 0 where
@@ -241,7 +251,7 @@ abbrev pub tidyTells : List ℕ → Bool → Bool → ℕ → ℕ
 tidyTells o awaits quirks limit = testOf (tidying o awaits quirks limit)
 
 abbrev pub grammarTells : List ℕ → ℕ
-grammarTells o = if grammatical o then 21 else 22
+grammarTells o = if grammatical o then yes else other
 
 -- "With two maps the first is checked whole before the second."
 unfoldable pub twoTell : List ℕ → List ℕ → List ℕ → List ℕ → ℕ → ℕ
@@ -265,14 +275,14 @@ pub record Lies (o : Lying) (r f e : ℕ) : Type 0 where
   pub to : e ≡ o .to
 
 abbrev pub placeLies : Place → Lying
-placeLies (Block a e) = record { answer = 23; from = a .0; to = e .0 }
-placeLies (Store a e) = record { answer = 24; from = a .0; to = e .0 }
+placeLies (Block a e) = record { answer = inTheBlock; from = a .0; to = e .0 }
+placeLies (Store a e) = record { answer = inTheStore; from = a .0; to = e .0 }
 
 abbrev pub noneLies : ℕ → ℕ → ℕ → Lying
 noneLies r f e = record { answer = r; from = f; to = e }
 
 abbrev pub handedLies : ℕ → ℕ → Option Place → Lying
-handedLies f e none = noneLies 20 f e
+handedLies f e none = noneLies missing f e
 handedLies f e (some p) = placeLies p
 
 -- a refusal is told, where the lookups hand out an empty part

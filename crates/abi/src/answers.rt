@@ -15,7 +15,16 @@ use walker::Step;
 use writes::Wrote;
 ghost use mathlib.Core.Path.{_≡_};
 ghost use Rattle.leaves.specs.Refusals.{number};
-ghost use Rattle.abi.specs.Answers.{answerOf, checkedOf, editOf, foundOf, wroteOf, equalOf, testOf, codeOf, lengthOf, kindOf, stepOf, startAnswer, verdictOf};
+ghost use Rattle.maps.specs.Answers.{told as checkedOf};
+ghost use Rattle.reader.specs.Answers.{told as answerOf};
+ghost use Rattle.edits.specs.Answers.{told as editOf};
+ghost use Rattle.lookups.specs.Answers.{told as foundOf};
+ghost use Rattle.writes.specs.Answers.{told as wroteOf};
+ghost use Rattle.equals.specs.Answers.{told as equalOf};
+ghost use Rattle.tests.specs.Answers.{told as testOf};
+ghost use Rattle.codes.specs.Answers.{codeTold as codeOf, lengthTold as lengthOf, kindTold as kindOf};
+ghost use Rattle.walker.specs.Answers.{told as stepOf, startTold as startAnswer};
+ghost use Rattle.resume.specs.Answers.{told as verdictOf};
 
 pub const DONE: u32 = 0;
 

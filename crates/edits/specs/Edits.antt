@@ -8,7 +8,7 @@ use Rattle.leaves.specs.Choice.{if_then_else_}
 use Rattle.leaves.specs.Paste.{lay, pasted}
 use Rattle.leaves.specs.Sanitise.{sanitised}
 use Rattle.leaves.specs.declared.refusals.Refusal.{Refusal}
-use Rattle.leaves.specs.declared.refusals.Refusal.the-variants.{FieldsFull, StoreFull}
+use Rattle.leaves.specs.Refusals.{refusal}
 use Rattle.maps.specs.Places.{inStore}
 use Rattle.maps.specs.Good.{live, checkedDone, unless}
 use Rattle.maps.specs.Maps.{Given}
@@ -55,8 +55,8 @@ done n b z = record { result = record { answer = Done; map = n }; block = b; sto
 -- rest of the store stays"
 unfoldable pub changing : HeaderMap → List ℕ → List ℕ → HeaderMap → List ℕ → Given Edited
 changing m b s n t =
-    if ltb 256 (n .fields) then refusing m b s FieldsFull
-    else if ltb (m .room) (m .mark + length t) then refusing m b s StoreFull
+    if ltb 256 (n .fields) then refusing m b s (refusal 5)
+    else if ltb (m .room) (m .mark + length t) then refusing m b s (refusal 6)
     else done n b (pasted s (m .mark) t)
 
 -- "Set and append put the new key, then the new value, at the mark": where they go

@@ -9,7 +9,8 @@ use lib.ListN.{length, getD, drop, length-append}
 use lib.Seq.{drop-at, drop-drop, drop-append-add, getD-drop}
 use borrow.Author.Tests.{eq-eqb, lt-ltb, le-ltb}
 use Rattle.leaves.specs.Choice.{if_then_else_, if-false, and-both}
-use Rattle.leaves.specs.Refusals.{number}
+use Rattle.leaves.specs.Refusals.{number, refusal}
+use Rattle.leaves.proofs.RefusalLaws.{refusal-number}
 use Rattle.leaves.specs.declared.refusals.Refusal.{Refusal}
 use Rattle.leaves.specs.declared.refusals.Refusal.the-variants.{BadRooms, ShortLoan, BadMap, BlockFull, FieldsFull, StoreFull, WrongPhase, ShortOutput, BadVersion, BadLength, BadTrailer, CutShort, TooFar}
 use Rattle.maps.specs.declared.Place.{Place}
@@ -26,7 +27,7 @@ use Rattle.walker.specs.declared.Walker.{Walker}
 use Rattle.encoded.specs.Number.{four, eight, fourOf, eightOf}
 use Rattle.encoded.specs.Tabled.{placed, statused, fielded, tabled, placeBy, placeOf, statusBy, statusOf, fieldOf, tableOf, soundField, soundTable, soundStatusBy, soundStatus}
 use Rattle.encoded.specs.Whole.{flagged, phased, phaseOf, numbered, marked, encoded, decoded, soundFlags, soundMap, sound}
-use Rattle.encoded.specs.Standing.{staged, refusalOf, lowStage, stageOf, trailed, encodedWalker, decodedWalker, soundWalker}
+use Rattle.encoded.specs.Standing.{staged, lowStage, stageOf, trailed, encodedWalker, decodedWalker, soundWalker}
 use Rattle.encoded.specs.Typed.{TypedPlace, TypedStatus, TypedFields, no-fields, one-more, TypedMap, TypedWalker}
 use Rattle.encoded.proofs.NumberLaws.{three-back, eight-back}
 use Rattle.encoded.proofs.TableLaws.{placed-length, statused-length, fielded-length, tabled-length}
@@ -245,22 +246,6 @@ encoded-sound m t =
     (ap soundMap (sym (append-nil (encoded m))) ∙ map-sound m [] t)
 
 -- where a walker stands
-refusal-back : (e : Refusal) → refusalOf (number e) ≡ e
-unfolding refusalOf if_then_else_
-refusal-back BadRooms = refl
-refusal-back ShortLoan = refl
-refusal-back BadMap = refl
-refusal-back BlockFull = refl
-refusal-back FieldsFull = refl
-refusal-back StoreFull = refl
-refusal-back WrongPhase = refl
-refusal-back ShortOutput = refl
-refusal-back BadVersion = refl
-refusal-back BadLength = refl
-refusal-back BadTrailer = refl
-refusal-back CutShort = refl
-refusal-back TooFar = refl
-
 pub number-low : (e : Refusal) → (1 ≤ number e) × (number e ≤ 13)
 number-low BadRooms = (omega arith, omega arith)
 number-low ShortLoan = (omega arith, omega arith)
@@ -282,7 +267,7 @@ stopped-back e =
     let n = number e in
     let h : 8 ≤ 7 + n = omega (arith, number-low e) in
     let k : 7 + n - 7 ≡ n = omega arith in
-    if-false _ _ (le-ltb (7 + n) 8 h) ∙ ap Stopped (ap refusalOf k ∙ refusal-back e)
+    if-false _ _ (le-ltb (7 + n) 8 h) ∙ ap Stopped (ap refusal k ∙ refusal-number e)
 
 stage-back : (x : Stage) → stageOf (staged x) ≡ x
 unfolding stageOf lowStage if_then_else_

@@ -16,7 +16,7 @@ use Rattle.maps.specs.Places.{inBlock, inStore}
 use Rattle.encoded.specs.Number.{four, eight, three, fourOf, eightOf}
 use Rattle.encoded.specs.Tabled.{placed, statused, fielded, tabled, placeBy, placeOf, statusBy, statusOf, fieldOf, tableOf, soundField, soundTable, soundStatusBy, soundStatus}
 use Rattle.encoded.specs.Whole.{flagged, phased, phaseOf, numbered, marked, encoded, decoded, soundFlags, soundMap, sound}
-use Rattle.encoded.specs.Standing.{staged, refusalOf, lowStage, stageOf, trailed, encodedWalker, decodedWalker, soundWalker}
+use Rattle.encoded.specs.Standing.{staged, lowStage, stageOf, trailed, encodedWalker, decodedWalker, soundWalker}
 use Rattle.encoded.specs.Typed.{Octets}
 
 octets-drop : (n : ℕ) (s : List ℕ) → Octets s → Octets (drop n s)
@@ -227,7 +227,7 @@ encoded-decoded s o e =
     encoded-again s o (omega arith) (and-right (eqb (length s) 6208) (soundMap s) e) ∙ take-all 6208 s (omega arith)
 
 staged-of : (n : ℕ) → n < 21 → staged (stageOf n) ≡ n
-unfolding stageOf lowStage refusalOf if_then_else_
+unfolding stageOf lowStage if_then_else_
 staged-of zero h = refl
 staged-of (suc zero) h = refl
 staged-of (suc (suc zero)) h = refl

@@ -5,9 +5,7 @@ use Prim.Native.Nat.{ℕ, _+_, _-_}
 use lib.Dec.{eqb, ltb}
 use lib.ListN.{length, drop}
 use Rattle.leaves.specs.Choice.{if_then_else_}
-use Rattle.leaves.specs.Refusals.{number}
-use Rattle.leaves.specs.declared.refusals.Refusal.{Refusal}
-use Rattle.leaves.specs.declared.refusals.Refusal.the-variants.{BadRooms, ShortLoan, BadMap, BlockFull, FieldsFull, StoreFull, WrongPhase, ShortOutput, BadVersion, BadLength, BadTrailer, CutShort, TooFar}
+use Rattle.leaves.specs.Refusals.{number, refusal}
 use Rattle.walker.specs.declared.Stage.{Stage}
 use Rattle.walker.specs.declared.Stage.the-variants.{Between, Header, Body, Cr, Lf, LastCr, LastLf, Ended, Stopped}
 use Rattle.walker.specs.declared.Walker.{Walker}
@@ -26,22 +24,6 @@ staged LastLf = 6
 staged Ended = 7
 staged (Stopped e) = 7 + number e
 
-unfoldable pub refusalOf : ℕ → Refusal
-refusalOf n =
-    if eqb n 1 then BadRooms
-    else if eqb n 2 then ShortLoan
-    else if eqb n 3 then BadMap
-    else if eqb n 4 then BlockFull
-    else if eqb n 5 then FieldsFull
-    else if eqb n 6 then StoreFull
-    else if eqb n 7 then WrongPhase
-    else if eqb n 8 then ShortOutput
-    else if eqb n 9 then BadVersion
-    else if eqb n 10 then BadLength
-    else if eqb n 11 then BadTrailer
-    else if eqb n 12 then CutShort
-    else TooFar
-
 unfoldable pub lowStage : ℕ → Stage
 lowStage n =
     if eqb n 0 then Between
@@ -54,7 +36,7 @@ lowStage n =
     else Ended
 
 unfoldable pub stageOf : ℕ → Stage
-stageOf n = if ltb n 8 then lowStage n else Stopped (refusalOf (n - 7))
+stageOf n = if ltb n 8 then lowStage n else Stopped (refusal (n - 7))
 
 unfoldable pub trailed : ℕ → ℕ → ℕ → ℕ → List ℕ
 trailed position rest start stage = eight position ++ (eight rest ++ (eight start ++ eight stage))

@@ -8,7 +8,8 @@ ghost use mathlib.Core.Path.{_≡_};
 ghost use Prim.Native.Nat.{_+_, _≤_, _<_};
 ghost use lib.ListN.{length, drop};
 ghost use Rattle.leaves.specs.Paste.{pasted};
-ghost use Rattle.encoded.specs.Standing.{staged, refusalOf, lowStage, stageOf, trailed, encodedWalker, decodedWalker, soundWalker};
+ghost use Rattle.leaves.specs.Refusals.{refusal};
+ghost use Rattle.encoded.specs.Standing.{staged, lowStage, stageOf, trailed, encodedWalker, decodedWalker, soundWalker};
 
 // How many octets a walker is.
 pub const WALKER: usize = 6240;
@@ -37,7 +38,7 @@ fn stage_number(stage: Stage) -> u64
 }
 
 fn refusal_of(n: u64) -> Refusal
-    ensures { λ r. ⌜ r ≡ refusalOf n ⌝ }
+    ensures { λ r. ⌜ r ≡ refusal n ⌝ }
 {
     match n {
         1 => Refusal::BadRooms,

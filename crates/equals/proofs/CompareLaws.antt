@@ -11,7 +11,7 @@ use Rattle.maps.specs.Good.{checkedDone, live}
 use Rattle.maps.specs.declared.HeaderMap.{HeaderMap}
 use Rattle.leaves.specs.declared.refusals.Refusal.{Refusal}
 use Rattle.maps.specs.declared.Checked.the-variants.{Fine, Refused as Bad}
-use Rattle.lookups.specs.Said.{pairAt, statusAt, saying}
+use Rattle.maps.specs.Said.{pairAt, statusAt, saying}
 use Rattle.equals.specs.declared.Equal.the-variants.{Yes, No, Refused}
 use Rattle.equals.specs.Equal.{samePairs, sameStatus, sameSaid, comparing}
 use Rattle.equals.proofs.PairLaws.{pairs-apart}

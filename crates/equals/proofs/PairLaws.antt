@@ -12,7 +12,7 @@ use Rattle.maps.specs.declared.Field.{Field}
 use Rattle.maps.specs.declared.Place.{Place}
 use Rattle.maps.specs.declared.Status.{Status}
 use Rattle.maps.specs.declared.Status.the-variants.{Absent, At}
-use Rattle.lookups.specs.Said.{Pair, pairAt, statusAt}
+use Rattle.maps.specs.Said.{Pair, pairAt, statusAt}
 use Rattle.equals.specs.Equal.{samePairs, sameStatus}
 
 -- the fields from i on

@@ -7,7 +7,7 @@ use Rattle.leaves.specs.Octets.{sameList}
 use Rattle.leaves.specs.Choice.{if_then_else_}
 use Rattle.maps.specs.Good.{checkedDone, unless}
 use Rattle.maps.specs.declared.HeaderMap.{HeaderMap}
-use Rattle.lookups.specs.Said.{Pair, Said, saying}
+use Rattle.maps.specs.Said.{Pair, Said, saying}
 use Rattle.equals.specs.declared.Equal.{Equal}
 use Rattle.equals.specs.declared.Equal.the-variants.{Yes, No, Refused}
 

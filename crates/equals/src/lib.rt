@@ -9,7 +9,7 @@ ghost use mathlib.Core.List.{map};
 ghost use Prim.Native.Nat.{_≤_};
 ghost use lib.ListN.{take};
 ghost use Rattle.leaves.specs.Octets.{sameList};
-ghost use Rattle.lookups.specs.Said.{pairAt, statusAt};
+ghost use Rattle.maps.specs.Said.{pairAt, statusAt};
 ghost use Rattle.equals.specs.Equal.{samePairs, sameStatus, comparing};
 
 pub enum Equal {

@@ -8,7 +8,7 @@ use Rattle.leaves.specs.Choice.{if_then_else_}
 use Rattle.leaves.specs.Class.{blank}
 use Rattle.leaves.specs.Trim.{trimEnd, trimStart, trimmed}
 use Rattle.leaves.specs.Octets.{before, all, sameList}
-use Rattle.leaves.specs.declared.refusals.Refusal.the-variants.{FieldsFull, StoreFull}
+use Rattle.leaves.specs.Refusals.{refusal}
 use Rattle.maps.specs.Places.{inBlock, inStore, part}
 use Rattle.maps.specs.declared.Field.{Field}
 use Rattle.maps.specs.declared.Place.{Place}
@@ -47,7 +47,7 @@ unfoldable pub grown : ℕ → ℕ → Place → ℕ → ℕ → List ℕ → Ru
 grown room slot key from mark new =
     if leb (mark + length new) room
     then record { change = putField slot key from (mark + length new); new = new }
-    else plain (Stops StoreFull)
+    else plain (Stops (refusal 6))
 
 -- "The first fold of a value copies it to the store .. ; a store value ending at the mark grows there, one ending elsewhere is copied
 -- again."
@@ -70,7 +70,7 @@ split n l fields mark =
     then (
     if ltb fields 256
     then plain (Put fields (record { key = trimmedAt n (take (before 58 l) l); value = trimmedAt (n + (before 58 l + 1)) (drop (before 58 l + 1) l) }) mark)
-    else plain (Stops FieldsFull))
+    else plain (Stops (refusal 5)))
     else plain Nothing
 
 -- rule 4, for the line of the block that begins at n: "if a status line is expected, the trimmed line is the status. Else, if it

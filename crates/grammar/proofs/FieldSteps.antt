@@ -18,7 +18,7 @@ use Rattle.maps.specs.declared.Place.{Place}
 use Rattle.folds.specs.Rule.{trimmedAt, endsBlock, grown, regrown}
 use Rattle.folds.specs.declared.Change.the-variants.{Put}
 use Rattle.reader.specs.Reading.{Rules, Found, changed, ruled}
-use Rattle.lookups.specs.Said.{Pair}
+use Rattle.maps.specs.Said.{Pair}
 use Rattle.tidy.proofs.CleanTexts.{has-append, no-end}
 use Rattle.tidy.proofs.LineReads.{ended}
 use Rattle.tidy.proofs.PairSays.{crlf-blank}

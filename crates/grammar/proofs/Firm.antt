@@ -12,7 +12,7 @@ use Rattle.maps.specs.declared.Field.{Field}
 use Rattle.maps.specs.declared.Place.{Place}
 use Rattle.maps.specs.declared.Status.{Status}
 use Rattle.reader.specs.Reading.{Found}
-use Rattle.lookups.specs.Said.{Pair, pairAt, statusAt}
+use Rattle.maps.specs.Said.{Pair, pairAt, statusAt}
 
 -- the lines P and the store s so far
 module _ (P s : List ℕ) where

@@ -15,10 +15,11 @@ use Rattle.leaves.specs.Trim.{leading, trimStart, trimEnd, trimmed}
 use Rattle.leaves.proofs.NameLaws.{same-list-eq}
 use Rattle.maps.specs.declared.Status.the-variants.{Absent, At}
 use Rattle.folds.specs.Rule.{trimmedAt, rule4}
-use Rattle.reader.specs.Reading.{Rules, Found, Reading, ruled, fed}
+use Rattle.reader.specs.Heard.{said}
+use Rattle.reader.specs.Reading.{Rules, Found, Reading, ruled, fed, begun}
 use Rattle.reader.proofs.OctetSteps.{opened}
-use Rattle.lookups.specs.Said.{Pair, Said, pairAt, statusAt}
-use Rattle.tidy.specs.Clean.{begun, said, Gives}
+use Rattle.maps.specs.Said.{Pair, Said, pairAt, statusAt}
+use Rattle.tidy.specs.Clean.{Gives}
 use Rattle.tidy.proofs.CleanTexts.{no-end}
 use Rattle.tidy.proofs.LineReads.{line-read, goes-on}
 use Rattle.tidy.proofs.PairReads.{blank-read}

@@ -3,7 +3,7 @@ use mathlib.Core.List.{List, [], _∷_, _++_, map}
 use mathlib.Core.Option.{some}
 use Prim.Native.Nat.{ℕ}
 use Rattle.leaves.specs.Trim.{trimmed}
-use Rattle.lookups.specs.Said.{Pair, Said}
+use Rattle.maps.specs.Said.{Pair, Said}
 use Rattle.grammar.specs.Grammar.{Fold, Entry, Header}
 
 -- "the last value becomes old value, one space, trimmed line", for each folded line; so a fold of blanks leaves a trailing space

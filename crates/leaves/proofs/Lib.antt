@@ -6,3 +6,4 @@ pub mod NumberLaws
 pub mod NameLaws
 pub mod SearchLaws
 pub mod PasteLaws
+pub mod RefusalLaws

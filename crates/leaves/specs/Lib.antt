@@ -7,3 +7,4 @@ pub mod Sanitise
 pub mod Number
 pub mod Name
 pub mod Refusals
+pub mod Numbers

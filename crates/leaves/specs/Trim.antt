@@ -2,7 +2,7 @@
 use mathlib.Core.Path.{_≡_}
 use mathlib.Core.Bool.{Bool, true, false, cond}
 use mathlib.Core.List.{List, [], _∷_}
-use Prim.Native.Nat.{ℕ, zero, suc, _-_, _≤_, min}
+use Prim.Native.Nat.{ℕ, zero, suc, _+_, _-_, _≤_, min}
 use lib.ListN.{length, take, drop}
 use Rattle.leaves.specs.Class.{blank}
 use Rattle.leaves.specs.declared.trims.Span.{Span}
@@ -41,3 +41,8 @@ pub record Trimming (s : List ℕ) (r : Span) : Type 0 where
   pub is : r ≡ trimSpan s
   pub order : r .start ≤ r .«end»
   pub within : r .«end» ≤ length s
+
+-- what trim says of its answer: the octets r, at z, of the line s, which lies at x; a blank line's are the empty part at its start
+pub record Trimmed (s : List ℕ) (x : ℕ × ℕ) (r : List ℕ) (z : ℕ × ℕ) : Type 0 where
+  pub is : r ≡ trimmed s
+  pub lies : (z .0 ≡ x .0) × (z .1 ≡ x .1 + trimStart s)

@@ -1,7 +1,8 @@
 // Trimming: the blank-free part of a line.
 use crate::classes;
 ghost use mathlib.Core.Path.{_≡_};
-ghost use Rattle.leaves.specs.Trim.{leading, trimEnd, trimmed, Trimming};
+ghost use denote.Ref.{ptr};
+ghost use Rattle.leaves.specs.Trim.{leading, trimEnd, Trimming, Trimmed};
 
 // A part of a slice: from start to before end.
 pub struct Span {
@@ -53,7 +54,7 @@ pub fn trim_bounds(line: &[u8]) -> Span
 
 // The blank-free part of the line.
 pub fn trim(line: &[u8]) -> &[u8]
-    ensures { λ r. ⌜ now r ≡ trimmed (now (line .entry)) ⌝ }
+    ensures { λ r. ⌜ Trimmed (now (line .entry)) (ptr (line .entry)) (now r) (ptr r) ⌝ }
 {
     let at = trim_bounds(line);
     let start = at.start;

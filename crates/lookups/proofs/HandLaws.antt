@@ -21,13 +21,14 @@ use Rattle.maps.specs.declared.Checked.{Checked}
 use Rattle.maps.specs.declared.Checked.the-variants.{Fine, Refused}
 use Rattle.maps.specs.declared.HeaderMap.{HeaderMap}
 use Rattle.maps.proofs.GoodLaws.{goes-on, refused-by, ready-of}
+use Rattle.maps.proofs.PartLaws.{within-begins}
 use Rattle.lookups.specs.declared.Slot.the-variants.{Nothing, At}
 use Rattle.lookups.specs.Lookups.{slotOf, shownStatus, Handed}
 
 -- one lemma for each of the two kinds of answer
 module _ (b s : List ℕ) (x y : ℕ × ℕ) (r : List ℕ) (z : ℕ × ℕ) where
   pub hands-part : {p : Place} {q : Option Place} → q ≡ some p → Within b s p → Parted b s x y p r z → Handed b s x y q r z
-  hands-part e w h = rw e (record { is = h .is; lies = h .lies w })
+  hands-part {p} e w h = rw e (record { is = h .is; lies = within-begins b s x y z p w (h .lies) })
 
   pub hands-nothing : {q : Option Place} → q ≡ none → r ≡ [] → Same z x → Handed b s x y q r z
   hands-nothing e h l = rw e (record { is = h; lies = l })

@@ -1,3 +1,3 @@
 pub mod SeekLaws
 pub mod HandLaws
-pub mod SaidLaws
+pub mod CalledLaws

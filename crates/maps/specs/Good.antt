@@ -6,7 +6,7 @@ use Prim.Native.Nat.{ℕ, _≤_}
 use lib.Dec.{leb}
 use lib.ListN.{length, take}
 use Rattle.leaves.specs.declared.refusals.Refusal.{Refusal}
-use Rattle.leaves.specs.declared.refusals.Refusal.the-variants.{ShortLoan, BadMap, WrongPhase}
+use Rattle.leaves.specs.Refusals.{refusal}
 use Rattle.maps.specs.Places.{inBlock, inStore}
 use Rattle.maps.specs.declared.Place.{Place}
 use Rattle.maps.specs.declared.Place.the-variants.{Block, Store}
@@ -72,9 +72,9 @@ isDone Done = true
 
 -- "Every other map call checks 3, 2, 7"
 abbrev pub firstOf : Bool → Bool → Bool → Checked
-firstOf false long ready = Refused BadMap
-firstOf true false ready = Refused ShortLoan
-firstOf true true false = Refused WrongPhase
+firstOf false long ready = Refused (refusal 3)
+firstOf true false ready = Refused (refusal 2)
+firstOf true true false = Refused (refusal 7)
 firstOf true true true = Fine
 
 unfoldable pub checked : Bool → HeaderMap → ℕ → ℕ → Checked

@@ -1,3 +1,5 @@
 pub mod Places
 pub mod Good
 pub mod Maps
+pub mod Said
+pub mod Answers

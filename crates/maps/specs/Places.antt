@@ -1,7 +1,7 @@
 -- Places, and what they say. Assumes nothing.
 use mathlib.Core.Path.{_≡_}
 use mathlib.Core.List.{List}
-use Prim.Native.Nat.{ℕ, _+_, _-_, _≤_}
+use Prim.Native.Nat.{ℕ, _+_, _-_, _≤_, min}
 use lib.ListN.{length, take, drop, getD}
 use Rattle.maps.specs.declared.Place.{Place}
 use Rattle.maps.specs.declared.Place.the-variants.{Block, Store}
@@ -37,16 +37,29 @@ begins x y (Store a e) = (y .0, y .1 + a .0)
 abbrev pub Same : ℕ × ℕ → ℕ × ℕ → Type 0
 Same z w = (z .0 ≡ w .0) × (z .1 ≡ w .1)
 
+-- where octets a to before e of a text begin in it: at a, or if a is past e or past the text's end at the lesser of the two
+unfoldable pub cutFrom : List ℕ → ℕ → ℕ → ℕ
+cutFrom s a e = min a (min e (length s))
+
+-- and in memory, the text being lent at x
+abbrev pub cutAt : List ℕ → ℕ × ℕ → ℕ → ℕ → ℕ × ℕ
+cutAt s x a e = (x .0, x .1 + cutFrom s a e)
+
 -- the octets r at z are those from a to before e of s, which lies at x
 pub record Cut (s : List ℕ) (x : ℕ × ℕ) (a e : ℕ) (r : List ℕ) (z : ℕ × ℕ) : Type 0 where
   pub is : r ≡ part a e s
-  pub lies : a ≤ e → e ≤ length s → (z .0 ≡ x .0) × (z .1 ≡ x .1 + a)
+  pub lies : Same z (cutAt s x a e)
+
+-- where the octets at a place begin, of one outside its text too; `PartLaws.within-begins`: at `begins` if it lies in its text
+abbrev pub partAt : List ℕ → List ℕ → ℕ × ℕ → ℕ × ℕ → Place → ℕ × ℕ
+partAt b s x y (Block a e) = cutAt b x (a .0) (e .0)
+partAt b s x y (Store a e) = cutAt s y (a .0) (e .0)
 
 -- what part says of its answer
 pub record Parted (b s : List ℕ) (x y : ℕ × ℕ) (p : Place) (r : List ℕ) (z : ℕ × ℕ) : Type 0 where
   pub is : r ≡ at b s p
   pub small : length r ≤ 4294967295
-  pub lies : Within b s p → Same z (begins x y p)
+  pub lies : Same z (partAt b s x y p)
 
 abbrev pub noField : Field
 noField = record { key = inBlock 0 0; value = inBlock 0 0 }

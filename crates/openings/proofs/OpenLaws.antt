@@ -9,6 +9,7 @@ use lib.Dec.{leb}
 use Rattle.leaves.specs.Choice.{if-true, if-false, and-left, and-right}
 use Rattle.leaves.specs.Octets.{sameList}
 use Rattle.leaves.specs.Number.{decimal, isDecimal, contentLength}
+use Rattle.leaves.specs.Trim.{trimmed, trimEnd, trimStart, leading}
 use Rattle.leaves.specs.declared.refusals.Refusal.{Refusal}
 use Rattle.leaves.specs.declared.refusals.Refusal.the-variants.{BadVersion, BadLength}
 use Rattle.standard.specs.Names.{nameOf}
@@ -20,7 +21,7 @@ use Rattle.maps.specs.declared.Status.{Status}
 use Rattle.maps.specs.declared.Status.the-variants.{Absent, At as Stands}
 use Rattle.maps.specs.declared.HeaderMap.{HeaderMap}
 use Rattle.maps.proofs.GoodLaws.{goes-on, refused-by}
-use Rattle.lookups.specs.Said.{saying, statusAt}
+use Rattle.maps.specs.Said.{saying, statusAt}
 use Rattle.lookups.specs.Lookups.{finding, statusIn, statusPlace, valuePlace, handedOut}
 use Rattle.lookups.specs.declared.Found.{Found}
 use Rattle.lookups.specs.declared.Found.the-variants.{At, Missing, Refused as NotLooked}
@@ -69,16 +70,16 @@ length-is v n t e =
     omega arith
 
 module _ (m : HeaderMap) (b s : List ℕ) where
-  version-by : (x : Status) → versionText (handedOut b s (statusIn x)) ≡ isVersion (statusAt b s x)
-  unfolding sameList
+  version-by : (x : Status) → versionText (trimmed (handedOut b s (statusIn x))) ≡ isVersion (statusAt b s x)
+  unfolding sameList trimEnd trimStart leading
   version-by Absent = refl
   version-by (Stands p) = refl
 
   module _ (e : Fine ≡ checkedDone m b s) where
-    pub version-is : (t : List ℕ) → t ≡ handedOut b s (statusPlace m b s) → versionText t ≡ isVersion (saying m b s .status)
+    pub version-is : (t : List ℕ) → t ≡ trimmed (handedOut b s (statusPlace m b s)) → versionText t ≡ isVersion (saying m b s .status)
     unfolding saying
     version-is t h =
-        ap versionText (h ∙ ap (λ (x : Status). handedOut b s (statusIn x)) (status-fine m b s e)) ∙ version-by (m .status)
+        ap versionText (h ∙ ap (λ (x : Status). trimmed (handedOut b s (statusIn x))) (status-fine m b s e)) ∙ version-by (m .status)
 
     kind-is : kindOf m b s ≡ IsKind (typeOf (valuesOf (nameOf WarcType) (saying m b s .pairs)))
     kind-is = by (finding m b s (nameOf WarcType) 0) refl
@@ -91,7 +92,7 @@ module _ (m : HeaderMap) (b s : List ℕ) where
     same-kind : (j k : ℕ) → IsKind j ≡ IsKind k → j ≡ k
     same-kind j k q = cc
 
-    pub opens-record : (t v : List ℕ) (n k : ℕ) → t ≡ handedOut b s (statusPlace m b s) → versionText t ≡ true
+    pub opens-record : (t v : List ℕ) (n k : ℕ) → t ≡ trimmed (handedOut b s (statusPlace m b s)) → versionText t ≡ true
         → v ≡ single m b s (nameOf ContentLength) → isLength v ≡ true → n ≡ contentLength v → kindOf m b s ≡ IsKind k
         → Record n k ≡ opened (saying m b s)
     unfolding opened
@@ -109,7 +110,7 @@ module _ (m : HeaderMap) (b s : List ℕ) where
         apart : {A : Type 0} (k : ℕ) (y : Refusal) → IsKind k ≡ NoKind y → A
         apart k y q = let z : _≡_ {A = ℕ} 0 1 = cc in absurd (omega arith)
 
-    pub opens-ten : (t v : List ℕ) → t ≡ handedOut b s (statusPlace m b s) → versionText t ≡ true
+    pub opens-ten : (t v : List ℕ) → t ≡ trimmed (handedOut b s (statusPlace m b s)) → versionText t ≡ true
         → v ≡ single m b s (nameOf ContentLength) → isLength v ≡ false → Refused BadLength ≡ opened (saying m b s)
     unfolding opened
     opens-ten t v p q d g =
@@ -118,7 +119,7 @@ module _ (m : HeaderMap) (b s : List ℕ) where
         let l : isLength (onlyValue (nameOf ContentLength) (saying m b s)) ≡ false = ap isLength (sym f) ∙ g in
         sym (if-true _ _ u ∙ if-false _ _ l)
 
-    pub opens-nine : (t : List ℕ) → t ≡ handedOut b s (statusPlace m b s) → versionText t ≡ false → Refused BadVersion ≡ opened (saying m b s)
+    pub opens-nine : (t : List ℕ) → t ≡ trimmed (handedOut b s (statusPlace m b s)) → versionText t ≡ false → Refused BadVersion ≡ opened (saying m b s)
     unfolding opened
     opens-nine t p q = sym (if-false _ _ (sym (version-is t p) ∙ q))
 

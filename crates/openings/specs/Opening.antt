@@ -7,13 +7,14 @@ use lib.Dec.{leb}
 use Rattle.leaves.specs.Choice.{if_then_else_}
 use Rattle.leaves.specs.Octets.{octets, sameList}
 use Rattle.leaves.specs.Number.{decimal, isDecimal}
-use Rattle.leaves.specs.declared.refusals.Refusal.the-variants.{BadVersion, BadLength}
+use Rattle.leaves.specs.Trim.{trimmed}
+use Rattle.leaves.specs.Refusals.{refusal}
 use Rattle.standard.specs.Names.{nameOf}
 use Rattle.standard.specs.Types.{typeCode}
 use Rattle.standard.specs.declared.names.WarcHeader.the-variants.{WarcType, ContentLength}
 use Rattle.maps.specs.Good.{checkedDone, unless}
 use Rattle.maps.specs.declared.HeaderMap.{HeaderMap}
-use Rattle.lookups.specs.Said.{Said, saying}
+use Rattle.maps.specs.Said.{Said, saying}
 use Rattle.singles.specs.Single.{valuesOf, onlyValue}
 use Rattle.openings.specs.declared.Opening.{Opening}
 use Rattle.openings.specs.declared.Opening.the-variants.{Record, Refused}
@@ -29,7 +30,7 @@ versionText t = sameList t (octets "WARC/1.0") || sameList t (octets "WARC/1.1")
 -- "9 looks at the trimmed status (absent is 9)"
 abbrev pub isVersion : Option (List ℕ) → Bool
 isVersion none = false
-isVersion (some t) = versionText t
+isVersion (some t) = versionText (trimmed t)
 
 -- not "absent, repeated, not one or more digits, or over 1,099,511,627,776": a value absent or repeated is no octets here
 abbrev pub isLength : List ℕ → Bool
@@ -46,8 +47,8 @@ opened x =
     if isVersion (x .status)
     then if isLength (onlyValue (nameOf ContentLength) x)
     then Record (decimal (onlyValue (nameOf ContentLength) x)) (typeOf (valuesOf (nameOf WarcType) (x .pairs)))
-    else Refused BadLength
-    else Refused BadVersion
+    else Refused (refusal 10)
+    else Refused (refusal 9)
 
 unfoldable pub opening : HeaderMap → List ℕ → List ℕ → Opening
 opening m b s = unless (checkedDone m b s) Refused (opened (saying m b s))

@@ -2,12 +2,13 @@
 use codes::Kind;
 use leaves::lengths;
 use leaves::refusals::Refusal;
+use leaves::trims;
 use maps::Checked;
 use maps::HeaderMap;
 ghost use mathlib.Core.Path.{_≡_};
 ghost use Rattle.maps.specs.Good.{checkedDone};
 ghost use Rattle.maps.specs.declared.Checked.the-variants.{Fine};
-ghost use Rattle.lookups.specs.Said.{saying};
+ghost use Rattle.maps.specs.Said.{saying};
 ghost use Rattle.openings.specs.Opening.{versionText, isLength, opened, opening};
 
 // The largest Content-Length.
@@ -43,7 +44,8 @@ fn open_good<'a>(m: HeaderMap, block: &'a [u8], store: &'a [u8]) -> Opening
     requires { ⌜ Fine ≡ checkedDone m (now block) (now store) ⌝ }
     ensures { λ r. ⌜ r ≡ opened (saying m (now (block .entry)) (now (store .entry))) ⌝ }
 {
-    let text = lookups::status(m, block, store);
+    let status = lookups::status(m, block, store);
+    let text = trims::trim(status);
     if is_version(text) {
         let value = singles::only_value(m, block, store, b"Content-Length");
         if is_length(value) {

@@ -6,7 +6,7 @@ use lib.Dec.{leb}
 use lib.ListN.{length, take}
 use Rattle.leaves.specs.Paste.{lay}
 use Rattle.leaves.specs.declared.refusals.Refusal.{Refusal}
-use Rattle.leaves.specs.declared.refusals.Refusal.the-variants.{BadRooms, ShortLoan}
+use Rattle.leaves.specs.Refusals.{refusal}
 use Rattle.maps.specs.Good.{goodRooms, live, checked, checkedReading, unless}
 use Rattle.maps.specs.Maps.{empty, Given}
 use Rattle.maps.specs.declared.Phase.{Phase}
@@ -97,8 +97,8 @@ clearing m b s =
 
 -- "Begin and a walker's start check 1, 2."
 abbrev pub firstRooms : Bool → Bool → Checked
-firstRooms false long = Refuses BadRooms
-firstRooms true false = Refuses ShortLoan
+firstRooms false long = Refuses (refusal 1)
+firstRooms true false = Refuses (refusal 2)
 firstRooms true true = Fine
 
 unfoldable pub checkedRooms : ℕ → ℕ → ℕ → ℕ → Checked

@@ -11,7 +11,7 @@ use Rattle.leaves.specs.declared.refusals.Refusal.{Refusal}
 use Rattle.maps.specs.Good.{checkedDone}
 use Rattle.maps.specs.declared.Checked.the-variants.{Fine, Refused as Bad}
 use Rattle.maps.specs.declared.HeaderMap.{HeaderMap}
-use Rattle.lookups.specs.Said.{saying}
+use Rattle.maps.specs.Said.{saying}
 use Rattle.singles.specs.Single.{single}
 use Rattle.singles.proofs.FieldLaws.{single-is}
 use Rattle.codes.specs.Codes.{coding}

@@ -1,5 +1,5 @@
 -- The resume check. Assumes nothing.
-use mathlib.Core.Bool.{Bool, false, cond}
+use mathlib.Core.Bool.{Bool, false}
 use mathlib.Core.List.{List}
 use Prim.Native.Nat.{ℕ}
 use lib.Dec.{eqb}
@@ -8,17 +8,14 @@ use Rattle.leaves.specs.Choice.{if_then_else_}
 use Rattle.leaves.specs.Octets.{octets, sameList}
 use Rattle.maps.specs.Good.{checkedDone, unless}
 use Rattle.maps.specs.declared.HeaderMap.{HeaderMap}
-use Rattle.lookups.specs.Said.{Said, saying}
+use Rattle.maps.specs.Said.{Said, saying}
 use Rattle.codes.specs.Codes.{coding}
 use Rattle.codes.specs.declared.line.Code.{Code}
 use Rattle.codes.specs.declared.line.Code.the-variants.{Is, None, Refused as NoCode}
 use Rattle.singles.specs.Single.{onlyValue}
 use Rattle.resume.specs.declared.Verdict.{Verdict}
-use Rattle.resume.specs.declared.Verdict.the-variants.{Append, NoTag, Differ, NotPartial, Refused}
-
--- the answers by their numbers: "These are answers, apart from the table."
-abbrev pub answer : ℕ → Verdict
-answer n = cond (eqb n 0) Append (cond (eqb n 1) NoTag (cond (eqb n 2) Differ NotPartial))
+use Rattle.resume.specs.declared.Verdict.the-variants.{Refused}
+use Rattle.resume.specs.Answers.{answer}
 
 -- not "3 if the second status code isn't 206"
 abbrev pub isPartial : Code → Bool

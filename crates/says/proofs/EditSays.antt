@@ -16,7 +16,7 @@ use Rattle.maps.specs.declared.Place.{Place}
 use Rattle.maps.specs.declared.Checked.the-variants.{Fine}
 use Rattle.maps.specs.declared.HeaderMap.{HeaderMap}
 use Rattle.maps.proofs.GoodLaws.{ready-of}
-use Rattle.lookups.specs.Said.{saying}
+use Rattle.maps.specs.Said.{saying}
 use Rattle.edits.specs.declared.Edit.the-variants.{Done, Refused}
 use Rattle.edits.specs.declared.Edited.{Edited}
 use Rattle.edits.specs.Edits.{withFields, refusing, setting, appending, removing, statusing}

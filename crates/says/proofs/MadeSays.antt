@@ -14,9 +14,10 @@ use Rattle.maps.specs.declared.Field.{Field}
 use Rattle.maps.specs.declared.Checked.the-variants.{Fine}
 use Rattle.maps.specs.declared.HeaderMap.{HeaderMap}
 use Rattle.maps.proofs.GoodLaws.{ready-of}
-use Rattle.lookups.specs.Said.{Pair, pairAt, statusAt, saying, called}
+use Rattle.maps.specs.Said.{Pair, pairAt, statusAt, saying, called}
 use Rattle.lookups.specs.Lookups.{named}
-use Rattle.lookups.proofs.SaidLaws.{said-is, named-called}
+use Rattle.maps.proofs.SaidLaws.{said-is}
+use Rattle.lookups.proofs.CalledLaws.{named-called}
 use Rattle.edits.specs.Fields.{keeps, replaced}
 use Rattle.edits.specs.Edits.{withFields, withStatus, newField}
 use Rattle.edits.proofs.FieldLaws.{keeps-map, replaced-map}

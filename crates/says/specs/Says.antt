@@ -6,7 +6,7 @@ use lib.ListN.{drop}
 use Rattle.maps.specs.Good.{checkedDone}
 use Rattle.maps.specs.Maps.{Given}
 use Rattle.maps.specs.declared.Checked.{Checked}
-use Rattle.lookups.specs.Said.{Pair, Said, called, saying}
+use Rattle.maps.specs.Said.{Pair, Said, called, saying}
 use Rattle.lookups.specs.Lookups.{seeking}
 use Rattle.lookups.specs.declared.Found.{Found}
 use Rattle.edits.specs.Fields.{keeps, replaced}

@@ -17,7 +17,7 @@ use Rattle.maps.specs.declared.Checked.{Checked}
 use Rattle.maps.specs.declared.Checked.the-variants.{Fine, Refused as Bad}
 use Rattle.maps.specs.declared.HeaderMap.{HeaderMap}
 use Rattle.maps.proofs.GoodLaws.{ready-of, goes-on, refused-by}
-use Rattle.lookups.specs.Said.{pairAt, saying}
+use Rattle.maps.specs.Said.{pairAt, saying}
 use Rattle.lookups.specs.Lookups.{named, seeking, finding, valueIn, valuePlace, handedOut}
 use Rattle.lookups.specs.declared.Found.{Found}
 use Rattle.lookups.specs.declared.Found.the-variants.{At, Missing, Refused}

@@ -4,7 +4,7 @@ use Prim.Native.Nat.{ℕ}
 use Rattle.leaves.specs.Choice.{if_then_else_}
 use Rattle.maps.specs.Good.{checkedDone, unless}
 use Rattle.maps.specs.declared.HeaderMap.{HeaderMap}
-use Rattle.lookups.specs.Said.{Pair, Said, called, saying}
+use Rattle.maps.specs.Said.{Pair, Said, called, saying}
 
 -- the values of the fields of a name, in their order; "Names compare without ASCII case."
 unfoldable pub valuesOf : List ℕ → List Pair → List (List ℕ)

@@ -15,8 +15,8 @@ use Rattle.maps.specs.declared.Status.{Status}
 use Rattle.maps.specs.declared.Status.the-variants.{Absent, At}
 use Rattle.maps.specs.declared.HeaderMap.{HeaderMap}
 use Rattle.maps.specs.declared.Checked.the-variants.{Fine, Refused as Bad}
-use Rattle.lookups.specs.Said.{pairAt, statusAt}
-use Rattle.lookups.proofs.SaidLaws.{said-is}
+use Rattle.maps.specs.Said.{pairAt, statusAt}
+use Rattle.maps.proofs.SaidLaws.{said-is}
 use Rattle.lookups.proofs.SeekLaws.{live-cons, live-end}
 use Rattle.tidy.specs.Clean.{cleanPair, cleanPairs, cleanStatus, clean}
 use Rattle.tests.specs.declared.Test.the-variants.{Yes, No, Refused}

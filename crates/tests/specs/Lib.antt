@@ -1,3 +1,4 @@
 pub mod Keys
 pub mod Pass
 pub mod Tests
+pub mod Answers

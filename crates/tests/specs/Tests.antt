@@ -4,10 +4,10 @@ use mathlib.Core.List.{List}
 use Prim.Native.Nat.{ℕ}
 use lib.Dec.{leb}
 use Rattle.leaves.specs.Choice.{if_then_else_}
-use Rattle.leaves.specs.declared.refusals.Refusal.the-variants.{BadRooms}
+use Rattle.leaves.specs.Refusals.{refusal}
 use Rattle.maps.specs.Good.{checkedDone, unless}
 use Rattle.maps.specs.declared.HeaderMap.{HeaderMap}
-use Rattle.lookups.specs.Said.{saying}
+use Rattle.maps.specs.Said.{saying}
 use Rattle.reader.specs.Reading.{Rules}
 use Rattle.tidy.specs.Clean.{clean, tidy}
 use Rattle.tests.specs.declared.Test.{Test}
@@ -28,4 +28,4 @@ rules limit quirks = record { limit = limit; room = limit; quirks = quirks }
 
 -- "tidy a limit too (1 if out of range)"; "A block is tidy for its flags and limit"
 unfoldable pub tidying : List ℕ → Bool → Bool → ℕ → Test
-tidying l status quirks limit = if leb limit 65536 then answer (tidy (rules limit quirks) status l) else Refused BadRooms
+tidying l status quirks limit = if leb limit 65536 then answer (tidy (rules limit quirks) status l) else Refused (refusal 1)

@@ -11,7 +11,7 @@ ghost use mathlib.Core.Path.{_≡_};
 ghost use mathlib.Core.List.{map};
 ghost use Prim.Native.Nat.{_≤_};
 ghost use lib.ListN.{take};
-ghost use Rattle.lookups.specs.Said.{pairAt, statusAt};
+ghost use Rattle.maps.specs.Said.{pairAt, statusAt};
 ghost use Rattle.tidy.specs.Clean.{cleanPairs, cleanStatus};
 ghost use Rattle.tests.specs.Tests.{cleaning, tidying};
 

@@ -12,7 +12,7 @@ use Rattle.leaves.specs.Octets.{has, before, all, sameList}
 use Rattle.leaves.specs.Trim.{trimmed}
 use Rattle.leaves.proofs.NameLaws.{same-list-eq}
 use Rattle.folds.specs.Rule.{continues, endsBlock}
-use Rattle.lookups.specs.Said.{Pair}
+use Rattle.maps.specs.Said.{Pair}
 use Rattle.tidy.specs.Clean.{neat, filled, cleanPair}
 use Rattle.tidy.proofs.TrimTexts.{first-solid}
 

@@ -14,11 +14,11 @@ use Rattle.maps.specs.declared.Place.{Place}
 use Rattle.maps.specs.declared.Status.{Status}
 use Rattle.maps.specs.declared.Phase.{Phase}
 use Rattle.maps.specs.declared.HeaderMap.{HeaderMap}
+use Rattle.reader.specs.Heard.{said}
 use Rattle.reader.specs.Reading.{Reading}
 use Rattle.reader.specs.Calls.{mapAt}
-use Rattle.lookups.specs.Said.{pairAt, statusAt, saying}
-use Rattle.lookups.proofs.SaidLaws.{said-is}
-use Rattle.tidy.specs.Clean.{said}
+use Rattle.maps.specs.Said.{pairAt, statusAt, saying}
+use Rattle.maps.proofs.SaidLaws.{said-is}
 use Rattle.tidy.proofs.TrimTexts.{part-front}
 
 -- texts laid over the start of the loans, and places that fit them

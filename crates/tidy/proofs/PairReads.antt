@@ -16,7 +16,7 @@ use Rattle.folds.specs.declared.Change.the-variants.{Put}
 use Rattle.reader.specs.Reading.{Rules, Found, Reading, ruled, lined, fed}
 use Rattle.reader.specs.declared.Answer.the-variants.{More, Blank}
 use Rattle.reader.proofs.OctetSteps.{opened}
-use Rattle.lookups.specs.Said.{Pair}
+use Rattle.maps.specs.Said.{Pair}
 use Rattle.writes.specs.Written.{crlf, pairLine, pairLines}
 use Rattle.tidy.specs.Clean.{cleanPair, cleanPairs}
 use Rattle.tidy.proofs.CleanTexts.{has-append, before-append, no-fold, no-end, CleanPair, clean-pair}

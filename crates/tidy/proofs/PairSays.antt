@@ -10,7 +10,7 @@ use Rattle.leaves.specs.Class.{blank}
 use Rattle.leaves.specs.Octets.{has, all}
 use Rattle.maps.specs.Places.{at}
 use Rattle.folds.specs.Rule.{trimmedAt}
-use Rattle.lookups.specs.Said.{Pair, pairAt}
+use Rattle.maps.specs.Said.{Pair, pairAt}
 use Rattle.writes.specs.Written.{crlf, pairLine, pairLines}
 use Rattle.tidy.specs.Clean.{cleanPair, cleanPairs}
 use Rattle.tidy.proofs.TrimTexts.{trim-blank, trim-append, trimmed-in}

@@ -10,11 +10,12 @@ use Rattle.leaves.specs.Choice.{if_then_else_, and-left, and-right}
 use Rattle.maps.specs.Places.{at}
 use Rattle.maps.specs.declared.Status.the-variants.{Absent, At}
 use Rattle.folds.specs.Rule.{trimmedAt, rule4}
-use Rattle.reader.specs.Reading.{Rules, Found, Reading, ruled, step, fed}
+use Rattle.reader.specs.Heard.{said}
+use Rattle.reader.specs.Reading.{Rules, Found, Reading, ruled, step, fed, begun}
 use Rattle.reader.proofs.OctetSteps.{opened}
-use Rattle.lookups.specs.Said.{Pair, Said}
+use Rattle.maps.specs.Said.{Pair, Said}
 use Rattle.writes.specs.Written.{crlf, statusLine, pairLines, rebuilt}
-use Rattle.tidy.specs.Clean.{neat, cleanPairs, cleanStatus, clean, expects, begun, said, Gives}
+use Rattle.tidy.specs.Clean.{neat, cleanPairs, cleanStatus, clean, expects, Gives}
 use Rattle.tidy.proofs.TrimTexts.{trim-append, trimmed-in, first-solid}
 use Rattle.tidy.proofs.CleanTexts.{neat-lf, neat-trim, no-end}
 use Rattle.tidy.proofs.LineReads.{line-read, goes-on}

@@ -10,7 +10,7 @@ use lib.ListN.{length, take}
 use Rattle.leaves.specs.Choice.{and-left, and-right, and-both}
 use Rattle.leaves.specs.Octets.{before}
 use Rattle.reader.specs.Reading.{Rules}
-use Rattle.lookups.specs.Said.{Pair, Said}
+use Rattle.maps.specs.Said.{Pair, Said}
 use Rattle.writes.specs.Written.{crlf, statusLine, pairLines, rebuilt}
 use Rattle.tidy.specs.Clean.{neat, filled, cleanStatus, cleanPairs, clean, expects, tidy, Rebuilds}
 use Rattle.tidy.specs.Scan.{neatLine, afterLine, scanned}

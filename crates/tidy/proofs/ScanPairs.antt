@@ -8,7 +8,7 @@ use lib.ListN.{length, take}
 use Rattle.leaves.specs.Choice.{and-left, and-right, and-both}
 use Rattle.leaves.specs.Octets.{before, sameList}
 use Rattle.leaves.proofs.NameLaws.{same-list-refl, same-list-eq}
-use Rattle.lookups.specs.Said.{Pair}
+use Rattle.maps.specs.Said.{Pair}
 use Rattle.writes.specs.Written.{crlf, pairLine, pairLines}
 use Rattle.tidy.specs.Clean.{neat, filled, cleanPair, cleanPairs}
 use Rattle.tidy.specs.Scan.{neatLine, afterLine, neatKey, afterKey, scanPairs}

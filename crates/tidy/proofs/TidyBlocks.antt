@@ -10,10 +10,11 @@ use lib.ListN.{length, length-map}
 use Rattle.leaves.specs.Choice.{and-left, and-right}
 use Rattle.leaves.specs.Octets.{sameList}
 use Rattle.leaves.proofs.NameLaws.{same-list-refl, same-list-eq}
-use Rattle.reader.specs.Reading.{Rules, Reading, fed}
-use Rattle.lookups.specs.Said.{Said, pairAt}
+use Rattle.reader.specs.Heard.{said, atBlank}
+use Rattle.reader.specs.Reading.{Rules, Reading, fed, begun}
+use Rattle.maps.specs.Said.{Said, pairAt}
 use Rattle.writes.specs.Written.{rebuilt}
-use Rattle.tidy.specs.Clean.{clean, expects, begun, said, Gives, atBlank, alike, tidyAfter, tidy, Rebuilds}
+use Rattle.tidy.specs.Clean.{clean, expects, Gives, alike, tidyAfter, tidy, Rebuilds}
 use Rattle.tidy.proofs.ReadsBack.{back}
 use Rattle.tidy.proofs.FewFields.{fed-within}
 

@@ -1,22 +1,17 @@
 -- Clean maps and tidy blocks. Assumes nothing.
 use mathlib.Core.Bool.{Bool, true, false, _&&_, not}
-use mathlib.Core.List.{List, [], _∷_, map}
+use mathlib.Core.List.{List, [], _∷_}
 use mathlib.Core.Option.{Option, none, some}
-use mathlib.Core.Path.{_≡_, refl}
+use mathlib.Core.Path.{_≡_}
 use Prim.Native.Nat.{ℕ, _≤_}
 use lib.Dec.{eqb}
 use lib.ListN.{length}
 use Rattle.leaves.specs.Octets.{has, sameList}
 use Rattle.leaves.specs.Trim.{trimmed}
-use Rattle.maps.specs.Maps.{empty}
-use Rattle.maps.specs.declared.Field.{Field}
-use Rattle.maps.specs.declared.Status.the-variants.{Absent}
-use Rattle.maps.specs.declared.Phase.the-variants.{Reading as Open}
-use Rattle.reader.specs.Reading.{Rules, Reading, fed}
-use Rattle.reader.specs.Calls.{readingOf}
-use Rattle.reader.specs.declared.Answer.{Answer}
-use Rattle.reader.specs.declared.Answer.the-variants.{More, Blank, Input, Refused}
-use Rattle.lookups.specs.Said.{Pair, Said, pairAt, statusAt}
+use Rattle.reader.specs.Reading.{Rules, Reading, begun, fed}
+use Rattle.reader.specs.Heard.{said, atBlank}
+use Rattle.reader.specs.declared.Answer.the-variants.{Blank}
+use Rattle.maps.specs.Said.{Pair, Said}
 use Rattle.writes.specs.Written.{rebuilt}
 
 -- "without CR, LF or outer blanks": trimming takes nothing away
@@ -50,34 +45,11 @@ abbrev pub expects : Option (List ℕ) → Bool
 expects none = false
 expects (some l) = true
 
--- a reading that begins, with a status line expected or not
-abbrev pub begun : Bool → Reading
-begun status = record { block = []; line = 0; found = record { awaits = status; status = Absent; fields = []; store = [] }; answer = More }
-
--- it is that of the map which begin makes, whatever is in the loans
-pub begun-is : (table : List Field) (limit room : ℕ) (status quirks : Bool) (b s : List ℕ) → readingOf (empty table limit room status quirks Open) b s ≡ begun status
-begun-is table limit room status quirks b s = refl
-
--- what a reading says
-unfoldable pub said : Reading → Said
-said r =
-    record {
-      status = statusAt (r .block) (r .found .store) (r .found .status);
-      pairs = map (pairAt (r .block) (r .found .store)) (r .found .fields);
-    }
-
 -- a reading that ended at its blank line, has taken all of b and says m
 pub record Gives (b : List ℕ) (m : Said) (r : Reading) : Type 0 where
   pub answer : r .answer ≡ Blank
   pub block : r .block ≡ b
   pub says : said r ≡ m
-
--- the reading ended at its blank line
-abbrev pub atBlank : Answer → Bool
-atBlank More = false
-atBlank Blank = true
-atBlank Input = false
-atBlank (Refused e) = false
 
 abbrev pub alike : Bool → Bool → Bool
 alike true b = b

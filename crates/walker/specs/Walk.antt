@@ -6,7 +6,7 @@ use lib.Dec.{eqb, ltb}
 use lib.ListN.{length, take, drop}
 use Rattle.leaves.specs.Choice.{if_then_else_}
 use Rattle.leaves.specs.declared.refusals.Refusal.{Refusal}
-use Rattle.leaves.specs.declared.refusals.Refusal.the-variants.{BadMap, BadTrailer, CutShort, TooFar}
+use Rattle.leaves.specs.Refusals.{refusal}
 use Rattle.maps.specs.Good.{defaultLimit, checked, unless, isReading, isDone}
 use Rattle.maps.specs.Maps.{empty, Given}
 use Rattle.maps.specs.declared.HeaderMap.{HeaderMap}
@@ -99,7 +99,7 @@ readyAt (Stopped e) phase = isDone phase
 
 -- "else a walker call first checks 3, 2, 7"; 3 is given for "a walker's body rest over 10's cap" too
 unfoldable pub checkedWalker : Walker → ℕ → ℕ → Checked
-checkedWalker w b s = if ltb longest (w .rest) then Bad BadMap else checked (readyAt (w .stage) (w .map .phase)) (w .map) b s
+checkedWalker w b s = if ltb longest (w .rest) then Bad (refusal 3) else checked (readyAt (w .stage) (w .map .phase)) (w .map) b s
 
 -- by the two sentences above
 abbrev pub unlessResting {ℓ} : {A : Type ℓ} → Resting → (Step → A) → A → A
@@ -114,7 +114,7 @@ allowed position n = min n (furthest - position)
 -- "a body part of the piece"; "13 comes before anything else at an octet"
 unfoldable pub bodyWalked : Walker → ℕ → Walked
 bodyWalked w k =
-    if eqb k 0 then stopsAt w TooFar
+    if eqb k 0 then stopsAt w (refusal 13)
     else walked (w .map) (w .position + min k (w .rest)) (w .rest - min k (w .rest)) Body (w .start) (min k (w .rest)) Part
 
 -- how many octets two texts have in common from their beginning
@@ -135,8 +135,8 @@ onward w stage n step = walked (w .map) (w .position + n) (w .rest) stage (w .st
 unfoldable pub trailerEnded : Walker → ℕ → ℕ → ℕ → ℕ → Walked
 trailerEnded w past k n same =
     if eqb (past + same) 4 then onward w Between same More
-    else if ltb same k then onward w (Stopped BadTrailer) same (Refused BadTrailer)
-    else if ltb k n then onward w (Stopped TooFar) same (Refused TooFar)
+    else if ltb same k then onward w (Stopped (refusal 11)) same (Refused (refusal 11))
+    else if ltb k n then onward w (Stopped (refusal 13)) same (Refused (refusal 13))
     else onward w (trailerStage (past + same)) same More
 
 unfoldable pub trailerWalked : Walker → ℕ → List ℕ → Walked
@@ -151,7 +151,7 @@ openedAt m position rest start taken (Shut e) = walked m position rest (Stopped 
 -- the reader had k of a piece of n octets, and wants more: 13 inside a header "leaves what 4 does"
 unfoldable pub headerMore : HeaderMap → ℕ → ℕ → ℕ → ℕ → ℕ → ℕ → Walked
 headerMore m position rest start taken k n =
-    if ltb k n then walked (emptied m) position rest (Stopped TooFar) start taken (Refused TooFar)
+    if ltb k n then walked (emptied m) position rest (Stopped (refusal 13)) start taken (Refused (refusal 13))
     else walked m position rest Header start taken More
 
 -- what an answer of the reader means for the walker; feed never answers that the input ended
@@ -177,7 +177,7 @@ headerRead w m start k b s p = headerGives w start k (length p) (feeding m b s (
 unfoldable pub betweenWalked : Walker → List ℕ → List ℕ → List ℕ → Given Walked
 betweenWalked w b s p =
     let k : ℕ = allowed (w .position) (length p) in
-    if eqb k 0 then keeps b s (stopsAt w TooFar) else headerRead w (fresh (w .map)) (w .position) k b s p
+    if eqb k 0 then keeps b s (stopsAt w (refusal 13)) else headerRead w (fresh (w .map)) (w .position) k b s p
 
 -- "12 and 13 inside a header leave what 4 does"
 abbrev pub stopsInside : Walker → Refusal → Walked
@@ -186,7 +186,7 @@ stopsInside w e = walked (emptied (w .map)) (w .position) (w .rest) (Stopped e) 
 unfoldable pub headerWalked : Walker → List ℕ → List ℕ → List ℕ → Given Walked
 headerWalked w b s p =
     let k : ℕ = allowed (w .position) (length p) in
-    if eqb k 0 then keeps b s (stopsInside w TooFar) else headerRead w (w .map) (w .start) k b s p
+    if eqb k 0 then keeps b s (stopsInside w (refusal 13)) else headerRead w (w .map) (w .start) k b s p
 
 -- a body of which nothing is left is a trailer that begins
 unfoldable pub restWalked : Walker → List ℕ → Walked
@@ -217,12 +217,12 @@ walking w b s p =
 -- "12 file ends inside a record"
 abbrev pub stageEnded : Stage → Walker → Walked
 stageEnded Between w = walked (w .map) (w .position) (w .rest) Ended (w .start) 0 End
-stageEnded Header w = stopsInside w CutShort
-stageEnded Body w = stopsAt w CutShort
-stageEnded Cr w = stopsAt w CutShort
-stageEnded Lf w = stopsAt w CutShort
-stageEnded LastCr w = stopsAt w CutShort
-stageEnded LastLf w = stopsAt w CutShort
+stageEnded Header w = stopsInside w (refusal 12)
+stageEnded Body w = stopsAt w (refusal 12)
+stageEnded Cr w = stopsAt w (refusal 12)
+stageEnded Lf w = stopsAt w (refusal 12)
+stageEnded LastCr w = stopsAt w (refusal 12)
+stageEnded LastLf w = stopsAt w (refusal 12)
 stageEnded Ended w = stands w End
 stageEnded (Stopped e) w = stands w (Refused e)
 

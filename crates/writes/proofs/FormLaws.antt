@@ -11,7 +11,7 @@ use Rattle.maps.specs.declared.Field.{Field}
 use Rattle.maps.specs.declared.Place.{Place}
 use Rattle.maps.specs.declared.Status.{Status}
 use Rattle.maps.specs.declared.Status.the-variants.{Absent, At}
-use Rattle.lookups.specs.Said.{pairAt, statusAt}
+use Rattle.maps.specs.Said.{pairAt, statusAt}
 use Rattle.writes.specs.Written.{Put, pairLine, pairLines, statusLine, crlf}
 use Rattle.writes.proofs.PutLaws.{Writing, write-step, write-end}
 

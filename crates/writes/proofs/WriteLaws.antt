@@ -15,7 +15,7 @@ use Rattle.maps.specs.declared.HeaderMap.{HeaderMap}
 use Rattle.leaves.specs.declared.refusals.Refusal.{Refusal}
 use Rattle.leaves.specs.declared.refusals.Refusal.the-variants.{ShortOutput}
 use Rattle.maps.specs.declared.Checked.the-variants.{Fine, Refused as Bad}
-use Rattle.lookups.specs.Said.{pairAt, statusAt, saying}
+use Rattle.maps.specs.Said.{pairAt, statusAt, saying}
 use Rattle.writes.specs.declared.Wrote.{Wrote}
 use Rattle.writes.specs.declared.Wrote.the-variants.{Count, Refused}
 use Rattle.writes.specs.Written.{Put, pairLines, statusLine, crlf, rebuilt, written, Given, Is, giving, rebuilding, untouched, writing}

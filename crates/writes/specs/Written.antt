@@ -9,10 +9,10 @@ use lib.ListN.{length, take}
 use Rattle.leaves.specs.Choice.{if_then_else_}
 use Rattle.leaves.specs.Paste.{pasted, lay}
 use Rattle.leaves.specs.declared.refusals.Refusal.{Refusal}
-use Rattle.leaves.specs.declared.refusals.Refusal.the-variants.{ShortOutput}
+use Rattle.leaves.specs.Refusals.{refusal}
 use Rattle.maps.specs.Good.{checkedDone, unless}
 use Rattle.maps.specs.declared.HeaderMap.{HeaderMap}
-use Rattle.lookups.specs.Said.{Pair, Said, saying}
+use Rattle.maps.specs.Said.{Pair, Said, saying}
 use Rattle.writes.specs.declared.Wrote.{Wrote}
 use Rattle.writes.specs.declared.Wrote.the-variants.{Count, Refused}
 
@@ -62,7 +62,7 @@ refuses d x = record { result = Refused x; out = d }
 
 -- "8 output shorter than the written form"; "Both answer the count; output past it stays."
 unfoldable pub giving : List ℕ → List ℕ → Given
-giving d t = if ltb (length d) (length t) then refuses d ShortOutput else record { result = Count (length t); out = lay d t }
+giving d t = if ltb (length d) (length t) then refuses d (refusal 8) else record { result = Count (length t); out = lay d t }
 
 -- "A rebuild call always rebuilds."
 unfoldable pub rebuilding : HeaderMap → List ℕ → List ℕ → List ℕ → Given

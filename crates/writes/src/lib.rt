@@ -8,7 +8,7 @@ ghost use mathlib.Core.Path.{_≡_};
 ghost use mathlib.Core.List.{_∷_, [], map};
 ghost use Prim.Native.Nat.{_+_, _≤_};
 ghost use lib.ListN.{length, take};
-ghost use Rattle.lookups.specs.Said.{pairAt, statusAt};
+ghost use Rattle.maps.specs.Said.{pairAt, statusAt};
 ghost use Rattle.writes.specs.Written.{Put, pairLine, pairLines, statusLine, rebuilding, untouched, writing, Is};
 
 pub enum Wrote {

@@ -1,7 +1,7 @@
 -- `equals::same_fields` meets its contract. Assumes nothing.
 use Rattle.equals.proofs.OctetLaws.{same-by}
 use mathlib.Core.List.{map}
-use Rattle.lookups.specs.Said.{pairAt}
+use Rattle.maps.specs.Said.{pairAt}
 use Rattle.equals.specs.Equal.{samePairs}
 use Rattle.equals.proofs.PairLaws.{pairs-more, keys-differ, values-differ, pairs-end}
 use borrow.Author.Needs.{needs}
@@ -63,7 +63,7 @@ loop-again c =
     let s = c .before .before .before .before .before .before .before .before .before .before .before .before .before .before .before .before .args in
     let v : s .n ≤ length (s .t1) = omega arith in
     let w : s .n ≤ length (s .t2) = omega arith in
-    let h : l .loop .i < s .n = omega arith in
+    let h : l .loop .i < s .n = omega (arith, c .before .before .before .before .before .before .before .before .before .before .loop-test .taken) in
     (search needs, l .loop .inv .1 ∙ pairs-more (s .b .now) (s .s .now) (s .c .now) (s .z .now) (s .t1) (s .t2) (s .n) (l .loop .i) v w h (sym (same-by _ _ _ _ _ (c .before .before .before .before .before .before .before .part .ensures .is) (c .before .before .before .before .before .before .part2 .ensures .is) (c .before .before .before .before .before .same-octets .ensures)) ∙ c .before .before .before .before .if1 .taken) (sym (same-by _ _ _ _ _ (c .before .before .before .part3 .ensures .is) (c .before .before .part4 .ensures .is) (c .before .same-octets2 .ensures)) ∙ c .if2 .taken))
 
 returns : tie.Need-returns Inv-loop μ-loop
@@ -72,7 +72,7 @@ returns c =
     let s = c .before .before .before .before .before .before .before .before .before .before .before .before .before .before .before .before .args in
     let v : s .n ≤ length (s .t1) = omega arith in
     let w : s .n ≤ length (s .t2) = omega arith in
-    let h : l .loop .i < s .n = omega arith in
+    let h : l .loop .i < s .n = omega (arith, c .before .before .before .before .before .before .before .before .before .before .loop-test .taken) in
     sym (l .loop .inv .1 ∙ values-differ (s .b .now) (s .s .now) (s .c .now) (s .z .now) (s .t1) (s .t2) (s .n) (l .loop .i) v w h (sym (same-by _ _ _ _ _ (c .before .before .before .before .before .before .before .part .ensures .is) (c .before .before .before .before .before .before .part2 .ensures .is) (c .before .before .before .before .before .same-octets .ensures)) ∙ c .before .before .before .before .if1 .taken) (sym (same-by _ _ _ _ _ (c .before .before .before .part3 .ensures .is) (c .before .before .part4 .ensures .is) (c .before .same-octets2 .ensures)) ∙ c .if2 .left))
 
 returns-2 : tie.Need-returns-2 Inv-loop μ-loop

@@ -81,7 +81,7 @@ fold-line-requires c κs =
     record {
       roomy = record { marked = s .pre .marked; long = s .pre .roomy; most = s .pre .most };
       small = omega (arith, s .pre .small);
-      short = rw (c .before .trim .ensures) (omega (arith, length-take (trimEnd l - trimStart l) (drop (trimStart l) l), length-drop (trimStart l) l, length-take (length w - a .start) (drop (a .start) w), length-drop (a .start) w, s .pre .small));
+      short = rw (c .before .trim .ensures .is) (omega (arith, length-take (trimEnd l - trimStart l) (drop (trimStart l) l), length-drop (trimStart l) l, length-take (length w - a .start) (drop (a .start) w), length-drop (a .start) w, s .pre .small));
       value = λ some. rw z (s .pre .value some);
     }
 
@@ -99,7 +99,7 @@ returns-2 c =
     let t = d .before .before in
     let f = t .before .before in
     rw (rule4-fold (a .room) w (a .start) (a .awaits) (a .fields) (a .last) (a .mark) (take (a .mark) (a .store .now)) (f .before .if1 .left) (sym (rw q at (f .is-fold .ensures)) ∙ t .before .if2 .taken))
-    (rw (t .trim .ensures, q) at (d .fold-line .ensures))
+    (rw (t .trim .ensures .is, q) at (d .fold-line .ensures))
 
 name-line-requires : tie.Need-name-line-requires
 name-line-requires c κs =

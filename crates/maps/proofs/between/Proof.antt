@@ -1,4 +1,5 @@
 -- `maps::between` meets its contract. Assumes nothing.
+use Rattle.maps.specs.Places.{cutFrom}
 use Rattle.maps.proofs.PartLaws.{none-between, none-past, none-reversed, all-past}
 use borrow.Author.Needs.{needs}
 use Rattle.maps.proofs.between.Statement.{statement}
@@ -18,7 +19,8 @@ part-result-end : tie.Need-part-result-end
 part-result-end c = search needs
 
 returns : tie.Need-returns
-returns c = let s = c .before .before .before .args in record { is = none-between (drop (length (s .s .now)) (s .s .now)) (length (s .s .now)) ∙ sym (none-past (s .s .now) (s .from) (s .to) (omega arith)); lies = λ a b. absurd (omega arith) }
+unfolding cutFrom
+returns c = let s = c .before .before .before .args in record { is = none-between (drop (length (s .s .now)) (s .s .now)) (length (s .s .now)) ∙ sym (none-past (s .s .now) (s .from) (s .to) (omega arith)); lies = (refl, omega arith) }
 
 part-result-start-2 : tie.Need-part-result-start-2
 part-result-start-2 c = search needs
@@ -27,7 +29,8 @@ part-result-end-2 : tie.Need-part-result-end-2
 part-result-end-2 c = search needs
 
 returns-2 : tie.Need-returns-2
-returns-2 c = let s = c .before .before .before .args in record { is = all-past (s .s .now) (s .from) (s .to) (omega arith); lies = λ a b. (refl, omega arith) }
+unfolding cutFrom
+returns-2 c = let s = c .before .before .before .args in record { is = all-past (s .s .now) (s .from) (s .to) (omega arith); lies = (refl, omega arith) }
 
 sub-result-2 : tie.Need-sub-result-2
 sub-result-2 c = search needs
@@ -39,7 +42,8 @@ part-result-end-3 : tie.Need-part-result-end-3
 part-result-end-3 c = search needs
 
 returns-3 : tie.Need-returns-3
-returns-3 c = let s = c .before .before .before .args in record { is = none-between (drop (s .to) (s .s .now)) (s .to) ∙ sym (none-reversed (s .s .now) (s .from) (s .to) (omega arith)); lies = λ a b. absurd (omega arith) }
+unfolding cutFrom
+returns-3 c = let s = c .before .before .before .args in record { is = none-between (drop (s .to) (s .s .now)) (s .to) ∙ sym (none-reversed (s .s .now) (s .from) (s .to) (omega arith)); lies = (refl, omega arith) }
 
 part-result-start-4 : tie.Need-part-result-start-4
 part-result-start-4 c = search needs
@@ -48,7 +52,8 @@ part-result-end-4 : tie.Need-part-result-end-4
 part-result-end-4 c = search needs
 
 returns-4 : tie.Need-returns-4
-returns-4 c = record { is = refl; lies = λ a b. (refl, omega arith) }
+unfolding cutFrom
+returns-4 c = record { is = refl; lies = (refl, omega arith) }
 
 pub between-spec : {M : Type 1} → statement M
 between-spec =

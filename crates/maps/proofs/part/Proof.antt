@@ -36,7 +36,7 @@ returns c =
     let g = d .p .given in
     let s = d .before .before .before .before .args in
     let h : g .0 .1 .0 .0 ≤ 4294967295 = omega arith in
-    rw (g .1) (record { is = c .between .ensures .is; small = rw (c .between .ensures .is) (part-small (s .block .now) (g .0 .0 .0) (g .0 .1 .0 .0) 4294967295 h); lies = λ w. c .between .ensures .lies (w .0) (w .1) })
+    rw (g .1) (record { is = c .between .ensures .is; small = rw (c .between .ensures .is) (part-small (s .block .now) (g .0 .0 .0) (g .0 .1 .0 .0) 4294967295 h); lies = c .between .ensures .lies })
 
 returns-2 : tie.Need-returns-2
 returns-2 c =
@@ -44,7 +44,7 @@ returns-2 c =
     let g = d .p2 .given in
     let s = d .before .before .before .before .args in
     let h : g .0 .1 .0 .0 ≤ 4294967295 = omega arith in
-    rw (g .1) (record { is = c .between2 .ensures .is; small = rw (c .between2 .ensures .is) (part-small (s .store .now) (g .0 .0 .0) (g .0 .1 .0 .0) 4294967295 h); lies = λ w. c .between2 .ensures .lies (w .0) (w .1) })
+    rw (g .1) (record { is = c .between2 .ensures .is; small = rw (c .between2 .ensures .is) (part-small (s .store .now) (g .0 .0 .0) (g .0 .1 .0 .0) 4294967295 h); lies = c .between2 .ensures .lies })
 
 pub part-spec : {M : Type 1} → statement M
 part-spec =

@@ -3,11 +3,15 @@ use Rattle.openings.proofs.OpenLaws.{opens-record, kind-refuses, opens-
 use borrow.Author.Needs.{needs}
 use Rattle.openings.proofs.open_good.Statement.{statement}
 use Rattle.openings.proofs.open_good.Tie as tie
-use mathlib.Core.Path.{sym, _∙_}
+use mathlib.Core.Path.{sym, ap, _∙_}
 use Prim.Native.Nat.{_-_}
+use Rattle.leaves.specs.Trim.{trimmed}
 
 status-requires : tie.Need-status-requires
 status-requires c κs = search needs
+
+trim-requires : tie.Need-trim-requires
+trim-requires c κs = search needs
 
 is-version-requires : tie.Need-is-version-requires
 is-version-requires c κs = search needs
@@ -34,22 +38,23 @@ enum-known-kind-2 : tie.Need-enum-known-kind-2
 enum-known-kind-2 c = search needs
 
 returns : tie.Need-returns
-returns c = let a = c .before .before .before .before .before .before .before .before .before .before .before .before .before .before .args in let e = c .before .before .before .before .before .before .before .before .before .before .before .before .before .before .pre in opens-record (a .m) (a .block .now) (a .store .now) e _ _ _ _ (c .before .before .before .before .before .before .before .before .before .before .before .status .ensures .is) (sym (c .before .before .before .before .before .before .before .before .before .before .is-version .ensures) ∙ c .before .before .before .before .before .before .before .before .before .if1 .taken) (c .before .before .before .before .before .before .before .only-value .ensures) (sym (c .before .before .before .before .before .before .is-length .ensures) ∙ c .before .before .before .before .before .if2 .taken) (c .before .before .before .before .content-length .ensures) (sym (c .before .before .before .record-type .ensures) ∙ c .before .kind .given .1)
+returns c = let a = c .before .before .before .before .before .before .before .before .before .before .before .before .before .before .before .args in let e = c .before .before .before .before .before .before .before .before .before .before .before .before .before .before .before .pre in opens-record (a .m) (a .block .now) (a .store .now) e _ _ _ _ (c .before .before .before .before .before .before .before .before .before .before .before .trim .ensures .is ∙ ap trimmed (c .before .before .before .before .before .before .before .before .before .before .before .before .status .ensures .is)) (sym (c .before .before .before .before .before .before .before .before .before .before .is-version .ensures) ∙ c .before .before .before .before .before .before .before .before .before .if1 .taken) (c .before .before .before .before .before .before .before .only-value .ensures) (sym (c .before .before .before .before .before .before .is-length .ensures) ∙ c .before .before .before .before .before .if2 .taken) (c .before .before .before .before .content-length .ensures) (sym (c .before .before .before .record-type .ensures) ∙ c .before .kind .given .1)
 
 returns-2 : tie.Need-returns-2
-returns-2 c = let a = c .before .before .before .before .before .before .before .before .before .before .before .before .before .before .args in let e = c .before .before .before .before .before .before .before .before .before .before .before .before .before .before .pre in kind-refuses (a .m) (a .block .now) (a .store .now) e _ (sym (c .before .before .before .record-type .ensures) ∙ c .before .kind2 .given .1)
+returns-2 c = let a = c .before .before .before .before .before .before .before .before .before .before .before .before .before .before .before .args in let e = c .before .before .before .before .before .before .before .before .before .before .before .before .before .before .before .pre in kind-refuses (a .m) (a .block .now) (a .store .now) e _ (sym (c .before .before .before .record-type .ensures) ∙ c .before .kind2 .given .1)
 
 returns-3 : tie.Need-returns-3
-returns-3 c = let a = c .before .before .before .before .before .before .before .before .before .args in let e = c .before .before .before .before .before .before .before .before .before .pre in opens-ten (a .m) (a .block .now) (a .store .now) e _ _ (c .before .before .before .before .before .before .status .ensures .is) (sym (c .before .before .before .before .before .is-version .ensures) ∙ c .before .before .before .before .if1 .taken) (c .before .before .only-value .ensures) (sym (c .before .is-length .ensures) ∙ c .if2 .left)
+returns-3 c = let a = c .before .before .before .before .before .before .before .before .before .before .args in let e = c .before .before .before .before .before .before .before .before .before .before .pre in opens-ten (a .m) (a .block .now) (a .store .now) e _ _ (c .before .before .before .before .before .before .trim .ensures .is ∙ ap trimmed (c .before .before .before .before .before .before .before .status .ensures .is)) (sym (c .before .before .before .before .before .is-version .ensures) ∙ c .before .before .before .before .if1 .taken) (c .before .before .only-value .ensures) (sym (c .before .is-length .ensures) ∙ c .if2 .left)
 
 returns-4 : tie.Need-returns-4
-returns-4 c = let a = c .before .before .before .before .before .args in let e = c .before .before .before .before .before .pre in opens-nine (a .m) (a .block .now) (a .store .now) e _ (c .before .before .status .ensures .is) (sym (c .before .is-version .ensures) ∙ c .if1 .left)
+returns-4 c = let a = c .before .before .before .before .before .before .args in let e = c .before .before .before .before .before .before .pre in opens-nine (a .m) (a .block .now) (a .store .now) e _ (c .before .before .trim .ensures .is ∙ ap trimmed (c .before .before .before .status .ensures .is)) (sym (c .before .is-version .ensures) ∙ c .if1 .left)
 
 pub open-good-spec : {M : Type 1} → statement M
 open-good-spec =
     tie.close
     (tie.spec
     status-requires
+    trim-requires
     is-version-requires
     slice-aggregate-only-value
     only-value-requires

@@ -3,7 +3,7 @@ use Rattle.tests.proofs.are_clean.Statement.{statement}
 use Rattle.tests.proofs.are_clean.Tie as tie
 use Rattle.tests.proofs.CleanLaws.{pair-test, clean-more, clean-stop, clean-end}
 use mathlib.Core.List.{map}
-use Rattle.lookups.specs.Said.{pairAt}
+use Rattle.maps.specs.Said.{pairAt}
 use Rattle.tidy.specs.Clean.{cleanPairs}
 use borrow.Author.Needs.{needs}
 use native.Mathlib.Omega.{arith}

@@ -3,7 +3,7 @@ use Rattle.maps.specs.Places.{at, noField}
 use mathlib.Core.List.{map}
 use native.Mathlib.Nat.{zero-add}
 use lib.ListN.{length-append}
-use Rattle.lookups.specs.Said.{pairAt}
+use Rattle.maps.specs.Said.{pairAt}
 use Rattle.writes.specs.Written.{pairLine, pairLines}
 use Rattle.writes.proofs.FormLaws.{lines-more, lines-end}
 use borrow.Author.Needs.{needs}

@@ -2,7 +2,7 @@
 use Rattle.writes.proofs.FormLaws.{fields-room, fields-step, fields-end}
 use mathlib.Core.List.{map}
 use Rattle.writes.specs.Written.{pairLines}
-use Rattle.lookups.specs.Said.{pairAt}
+use Rattle.maps.specs.Said.{pairAt}
 use Rattle.writes.proofs.PutLaws.{Writing, write-start}
 use borrow.Author.Needs.{needs}
 use Rattle.writes.proofs.put_fields.Statement.{statement}

@@ -1,7 +1,7 @@
 -- `abi::looking::bisquecrow_find` meets its contract. Assumes nothing.
 use Rattle.abi.proofs.CallLaws.{told-sound, told-damaged}
 use Rattle.abi.specs.Calls.{foundNumber}
-use Rattle.abi.specs.Answers.{foundOf}
+use Rattle.lookups.specs.Answers.{told as foundOf}
 use Rattle.lookups.specs.declared.Found.{Found}
 use Rattle.encoded.proofs.WholeLaws.{sound-long}
 use borrow.Author.Needs.{needs}

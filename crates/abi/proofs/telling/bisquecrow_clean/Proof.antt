@@ -1,6 +1,6 @@
 -- `abi::telling::bisquecrow_clean` meets its contract. Assumes nothing.
 use Rattle.leaves.specs.Choice.{if-true, if-false}
-use Rattle.abi.specs.Answers.{testOf}
+use Rattle.tests.specs.Answers.{told as testOf}
 use Rattle.encoded.proofs.WholeLaws.{sound-long}
 use borrow.Author.Needs.{needs}
 use Rattle.abi.proofs.telling.bisquecrow_clean.Statement.{statement}

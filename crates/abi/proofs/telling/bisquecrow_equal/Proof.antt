@@ -1,6 +1,6 @@
 -- `abi::telling::bisquecrow_equal` meets its contract. Assumes nothing.
 use Rattle.abi.proofs.CallLaws.{two-damaged, two-refused, two-second, two-both}
-use Rattle.abi.specs.Answers.{equalOf}
+use Rattle.equals.specs.Answers.{told as equalOf}
 use Rattle.encoded.proofs.WholeLaws.{sound-long}
 use borrow.Author.Needs.{needs}
 use Rattle.abi.proofs.telling.bisquecrow_equal.Statement.{statement}

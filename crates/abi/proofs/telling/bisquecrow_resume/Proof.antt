@@ -1,6 +1,6 @@
 -- `abi::telling::bisquecrow_resume` meets its contract. Assumes nothing.
 use Rattle.abi.proofs.CallLaws.{two-damaged, two-refused, two-second, two-both}
-use Rattle.abi.specs.Answers.{verdictOf}
+use Rattle.resume.specs.Answers.{told as verdictOf}
 use Rattle.encoded.proofs.WholeLaws.{sound-long}
 use borrow.Author.Needs.{needs}
 use Rattle.abi.proofs.telling.bisquecrow_resume.Statement.{statement}

@@ -1,5 +1,5 @@
 -- `abi::telling::bisquecrow_tidy` meets its contract. Assumes nothing.
-use Rattle.abi.specs.Answers.{testOf}
+use Rattle.tests.specs.Answers.{told as testOf}
 use borrow.Author.Needs.{needs}
 use Rattle.abi.proofs.telling.bisquecrow_tidy.Statement.{statement}
 use Rattle.abi.proofs.telling.bisquecrow_tidy.Tie as tie

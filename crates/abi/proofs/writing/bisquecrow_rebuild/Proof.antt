@@ -1,7 +1,7 @@
 -- `abi::writing::bisquecrow_rebuild` meets its contract. Assumes nothing.
 use Rattle.abi.proofs.CallLaws.{put-sound, put-damaged}
 use Rattle.abi.specs.Calls.{countNumber}
-use Rattle.abi.specs.Answers.{wroteOf}
+use Rattle.writes.specs.Answers.{told as wroteOf}
 use Rattle.writes.specs.declared.Wrote.{Wrote}
 use Rattle.encoded.proofs.WholeLaws.{sound-long}
 use borrow.Author.Needs.{needs}

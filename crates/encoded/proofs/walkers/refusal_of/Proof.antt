@@ -1,64 +1,48 @@
 -- `encoded::walkers::refusal_of` meets its contract. Assumes nothing.
 use borrow.Author.Tests.{ne-eqb}
-use Rattle.leaves.specs.Choice.{if_then_else_, if-false}
-use Rattle.encoded.specs.Standing.{refusalOf}
 use Rattle.encoded.proofs.walkers.refusal_of.Statement.{statement}
 use Rattle.encoded.proofs.walkers.refusal_of.Tie as tie
-use mathlib.Core.Path.{sym, _∙_}
 
 returns : tie.Need-returns
-unfolding refusalOf if_then_else_
 returns c = rw (c .match .keys1)
 
 returns-2 : tie.Need-returns-2
-unfolding refusalOf if_then_else_
 returns-2 c = rw (c .match .keys2)
 
 returns-3 : tie.Need-returns-3
-unfolding refusalOf if_then_else_
 returns-3 c = rw (c .match .keys3)
 
 returns-4 : tie.Need-returns-4
-unfolding refusalOf if_then_else_
 returns-4 c = rw (c .match .keys4)
 
 returns-5 : tie.Need-returns-5
-unfolding refusalOf if_then_else_
 returns-5 c = rw (c .match .keys5)
 
 returns-6 : tie.Need-returns-6
-unfolding refusalOf if_then_else_
 returns-6 c = rw (c .match .keys6)
 
 returns-7 : tie.Need-returns-7
-unfolding refusalOf if_then_else_
 returns-7 c = rw (c .match .keys7)
 
 returns-8 : tie.Need-returns-8
-unfolding refusalOf if_then_else_
 returns-8 c = rw (c .match .keys8)
 
 returns-9 : tie.Need-returns-9
-unfolding refusalOf if_then_else_
 returns-9 c = rw (c .match .keys9)
 
 returns-10 : tie.Need-returns-10
-unfolding refusalOf if_then_else_
 returns-10 c = rw (c .match .keys10)
 
 returns-11 : tie.Need-returns-11
-unfolding refusalOf if_then_else_
 returns-11 c = rw (c .match .keys11)
 
 returns-12 : tie.Need-returns-12
-unfolding refusalOf if_then_else_
 returns-12 c = rw (c .match .keys12)
 
 returns-13 : tie.Need-returns-13
-unfolding refusalOf
 returns-13 c =
     let r = c .match .rest in
-    sym (if-false _ _ (ne-eqb _ _ (r .0 .0 .0 .0 .0 .0 .0 .0 .0 .0 .0 .1)) ∙ if-false _ _ (ne-eqb _ _ (r .0 .0 .0 .0 .0 .0 .0 .0 .0 .0 .1)) ∙ if-false _ _ (ne-eqb _ _ (r .0 .0 .0 .0 .0 .0 .0 .0 .0 .1)) ∙ if-false _ _ (ne-eqb _ _ (r .0 .0 .0 .0 .0 .0 .0 .0 .1)) ∙ if-false _ _ (ne-eqb _ _ (r .0 .0 .0 .0 .0 .0 .0 .1)) ∙ if-false _ _ (ne-eqb _ _ (r .0 .0 .0 .0 .0 .0 .1)) ∙ if-false _ _ (ne-eqb _ _ (r .0 .0 .0 .0 .0 .1)) ∙ if-false _ _ (ne-eqb _ _ (r .0 .0 .0 .0 .1)) ∙ if-false _ _ (ne-eqb _ _ (r .0 .0 .0 .1)) ∙ if-false _ _ (ne-eqb _ _ (r .0 .0 .1)) ∙ if-false _ _ (ne-eqb _ _ (r .0 .1)) ∙ if-false _ _ (ne-eqb _ _ (r .1)))
+    rw (ne-eqb _ _ (r .0 .0 .0 .0 .0 .0 .0 .0 .0 .0 .0 .1), ne-eqb _ _ (r .0 .0 .0 .0 .0 .0 .0 .0 .0 .0 .1), ne-eqb _ _ (r .0 .0 .0 .0 .0 .0 .0 .0 .0 .1), ne-eqb _ _ (r .0 .0 .0 .0 .0 .0 .0 .0 .1), ne-eqb _ _ (r .0 .0 .0 .0 .0 .0 .0 .1), ne-eqb _ _ (r .0 .0 .0 .0 .0 .0 .1), ne-eqb _ _ (r .0 .0 .0 .0 .0 .1), ne-eqb _ _ (r .0 .0 .0 .0 .1), ne-eqb _ _ (r .0 .0 .0 .1), ne-eqb _ _ (r .0 .0 .1), ne-eqb _ _ (r .0 .1), ne-eqb _ _ (r .1))
 
 pub refusal-of-spec : {M : Type 1} → statement M
 refusal-of-spec =

@@ -10,7 +10,7 @@ matches-scrubbed-requires : tie.Need-matches-scrubbed-requires
 matches-scrubbed-requires c κs = search needs
 
 returns : tie.Need-returns
-returns c = rw (← c .before .trim .ensures) (c .matches-scrubbed .ensures)
+returns c = rw (← c .before .trim .ensures .is) (c .matches-scrubbed .ensures)
 
 pub matches-sanitised-spec : {M : Type 1} → statement M
 matches-sanitised-spec = tie.close (tie.spec trim-requires matches-scrubbed-requires returns)

@@ -22,7 +22,7 @@ part-scrub-into-end c = search needs
 scrub-into-requires : tie.Need-scrub-into-requires
 scrub-into-requires c κs =
     let s = c .before .before .before .before in
-    rw (c .before .trim .ensures, part-length (s .args .store .now) (s .args .at) (length (s .args .store .now)) (omega arith) (omega arith)) (omega arith)
+    rw (c .before .trim .ensures .is, part-length (s .args .store .now) (s .args .at) (length (s .args .store .now)) (omega arith) (omega arith)) (omega arith)
 
 same-length : tie.Need-same-length
 same-length c = search needs
@@ -32,10 +32,10 @@ returns c =
     let d = c .before .before in
     let t = d .before .before in
     let s = t .before .before .before in (
-      rw (← t .trim .ensures) (d .scrub-into .ensures .0),
+      rw (← t .trim .ensures .is) (d .scrub-into .ensures .0),
       part-back (s .args .store .now) (s .args .at) (length (s .args .store .now)) (omega arith) (omega arith)
           (sanitised (s .args .key) (s .args .text .now)) (d .scrub-into .last .0) (omega arith)
-          (rw (← t .trim .ensures) (d .scrub-into .ensures .1)),
+          (rw (← t .trim .ensures .is) (d .scrub-into .ensures .1)),
     )
 
 pub sanitise-into-spec : {M : Type 1} → statement M

@@ -10,7 +10,7 @@ scrubbed-length-requires : tie.Need-scrubbed-length-requires
 scrubbed-length-requires c κs = search needs
 
 returns : tie.Need-returns
-returns c = rw (← c .before .trim .ensures) (c .scrubbed-length .ensures)
+returns c = rw (← c .before .trim .ensures .is) (c .scrubbed-length .ensures)
 
 pub sanitised-length-spec : {M : Type 1} → statement M
 sanitised-length-spec = tie.close (tie.spec trim-requires scrubbed-length-requires returns)

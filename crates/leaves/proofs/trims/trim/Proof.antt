@@ -1,5 +1,7 @@
 -- `leaves::trim` meets its contract: the part from the start to the end that trim_bounds finds. Assumes nothing.
 use borrow.Author.Needs.{needs}
+use mathlib.Core.Path.{refl}
+use native.Mathlib.Omega.{arith}
 use Rattle.leaves.proofs.trims.trim.Statement.{statement}
 use Rattle.leaves.proofs.trims.trim.Tie as tie
 
@@ -16,7 +18,7 @@ part-result-end : tie.Need-part-result-end
 part-result-end c = search needs
 
 returns : tie.Need-returns
-returns c = rw (c .before .trim-bounds .ensures .is)
+returns c = rw (c .before .trim-bounds .ensures .is) (record { is = refl; lies = (refl, omega arith) })
 
 pub trim-spec : {M : Type 1} → statement M
 trim-spec = tie.close (tie.spec trim-bounds-requires sub-result part-result-start part-result-end returns)

@@ -22,7 +22,7 @@ trim-requires : tie.Need-trim-requires
 trim-requires c κs = search needs
 
 returns-3 : tie.Need-returns-3
-returns-3 c = by-trim _ (sym (c .before .before .before .before .holds .ensures) ∙ c .before .before .before .if1 .left) (sym (c .before .before .holds2 .ensures) ∙ c .before .if2 .left) _ (c .trim .ensures)
+returns-3 c = by-trim _ (sym (c .before .before .before .before .holds .ensures) ∙ c .before .before .before .if1 .left) (sym (c .before .before .holds2 .ensures) ∙ c .before .if2 .left) _ (c .trim .ensures .is)
 
 pub is-neat-spec : {M : Type 1} → statement M
 is-neat-spec =
