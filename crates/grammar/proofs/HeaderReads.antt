@@ -15,7 +15,7 @@ use Rattle.leaves.specs.Trim.{leading, trimStart, trimEnd, trimmed}
 use Rattle.leaves.proofs.NameLaws.{same-list-eq}
 use Rattle.maps.specs.declared.Status.the-variants.{Absent, At}
 use Rattle.folds.specs.Rule.{trimmedAt, rule4}
-use Rattle.reader.specs.Heard.{said}
+use Rattle.readings.specs.Listening.{said}
 use Rattle.reader.specs.Reading.{Rules, Found, Reading, ruled, fed, begun}
 use Rattle.reader.proofs.OctetSteps.{opened}
 use Rattle.maps.specs.Said.{Pair, Said, pairAt, statusAt}

@@ -7,3 +7,4 @@ pub mod NameLaws
 pub mod SearchLaws
 pub mod PasteLaws
 pub mod RefusalLaws
+pub mod LayLaws

@@ -14,7 +14,7 @@ use Rattle.maps.specs.declared.Place.{Place}
 use Rattle.maps.specs.declared.Status.{Status}
 use Rattle.maps.specs.declared.Phase.{Phase}
 use Rattle.maps.specs.declared.HeaderMap.{HeaderMap}
-use Rattle.reader.specs.Heard.{said}
+use Rattle.readings.specs.Listening.{said}
 use Rattle.reader.specs.Reading.{Reading}
 use Rattle.reader.specs.Calls.{mapAt}
 use Rattle.maps.specs.Said.{pairAt, statusAt, saying}

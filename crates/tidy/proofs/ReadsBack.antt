@@ -10,7 +10,7 @@ use Rattle.leaves.specs.Choice.{if_then_else_, and-left, and-right}
 use Rattle.maps.specs.Places.{at}
 use Rattle.maps.specs.declared.Status.the-variants.{Absent, At}
 use Rattle.folds.specs.Rule.{trimmedAt, rule4}
-use Rattle.reader.specs.Heard.{said}
+use Rattle.readings.specs.Listening.{said}
 use Rattle.reader.specs.Reading.{Rules, Found, Reading, ruled, step, fed, begun}
 use Rattle.reader.proofs.OctetSteps.{opened}
 use Rattle.maps.specs.Said.{Pair, Said}

@@ -10,7 +10,7 @@ use lib.ListN.{length, length-map}
 use Rattle.leaves.specs.Choice.{and-left, and-right}
 use Rattle.leaves.specs.Octets.{sameList}
 use Rattle.leaves.proofs.NameLaws.{same-list-refl, same-list-eq}
-use Rattle.reader.specs.Heard.{said, atBlank}
+use Rattle.readings.specs.Listening.{said, atBlank}
 use Rattle.reader.specs.Reading.{Rules, Reading, fed, begun}
 use Rattle.maps.specs.Said.{Said, pairAt}
 use Rattle.writes.specs.Written.{rebuilt}

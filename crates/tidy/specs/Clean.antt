@@ -9,7 +9,7 @@ use lib.ListN.{length}
 use Rattle.leaves.specs.Octets.{has, sameList}
 use Rattle.leaves.specs.Trim.{trimmed}
 use Rattle.reader.specs.Reading.{Rules, Reading, begun, fed}
-use Rattle.reader.specs.Heard.{said, atBlank}
+use Rattle.readings.specs.Listening.{said, atBlank}
 use Rattle.reader.specs.declared.Answer.the-variants.{Blank}
 use Rattle.maps.specs.Said.{Pair, Said}
 use Rattle.writes.specs.Written.{rebuilt}

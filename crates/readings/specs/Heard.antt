@@ -1,4 +1,4 @@
--- Rule 4 in octets: what a line adds to what the lines before it said. `Rule` says the same of places. Assumes nothing.
+-- Rule 4 in octets: what a line adds to what the lines before it said. `folds.Rule` says the same of places. Assumes nothing.
 use mathlib.Core.Bool.{Bool, false}
 use mathlib.Core.List.{List, [], _∷_, _++_}
 use mathlib.Core.Option.{some}
