@@ -23,7 +23,7 @@ use Rattle.walker.specs.declared.Walked.{Walked}
 use Rattle.encoded.specs.Whole.{encoded, decoded, sound}
 use Rattle.encoded.specs.Standing.{encodedWalker}
 use Rattle.encoded.proofs.BackLaws.{number-low}
-use Rattle.walker.specs.Answers.{startTold as startAnswer}
+use Rattle.walker.specs.Answers.{startAnswer}
 use Rattle.abi.specs.Calls.{Out, Gave, damaged, outOf, begunOut, started, startedOut, twoTell, Lies, noneLies, handedLies, lookLies, Told, Tells, tellsDamaged, Put, Puts, putsDamaged}
 
 -- octets written over others that are as many

@@ -51,8 +51,8 @@ use Rattle.lookups.specs.Answers.{told as foundOf}
 use Rattle.writes.specs.Answers.{told as wroteOf}
 use Rattle.equals.specs.Answers.{told as equalOf}
 use Rattle.tests.specs.Answers.{told as testOf}
-use Rattle.codes.specs.Answers.{codeTold as codeOf, lengthTold as lengthOf, kindTold as kindOf}
-use Rattle.walker.specs.Answers.{told as stepOf, startTold as startAnswer}
+use Rattle.codes.specs.Answers.{codeAnswer as codeOf, lengthAnswer as lengthOf, kindAnswer as kindOf}
+use Rattle.walker.specs.Answers.{told as stepOf, startAnswer}
 use Rattle.resume.specs.Answers.{told as verdictOf}
 
 -- what a call that may change a map gives: its answer, the numbers that it hands out, and all that was lent at its end

@@ -22,8 +22,8 @@ ghost use Rattle.lookups.specs.Answers.{told as foundOf};
 ghost use Rattle.writes.specs.Answers.{told as wroteOf};
 ghost use Rattle.equals.specs.Answers.{told as equalOf};
 ghost use Rattle.tests.specs.Answers.{told as testOf};
-ghost use Rattle.codes.specs.Answers.{codeTold as codeOf, lengthTold as lengthOf, kindTold as kindOf};
-ghost use Rattle.walker.specs.Answers.{told as stepOf, startTold as startAnswer};
+ghost use Rattle.codes.specs.Answers.{codeAnswer as codeOf, lengthAnswer as lengthOf, kindAnswer as kindOf};
+ghost use Rattle.walker.specs.Answers.{told as stepOf, startAnswer};
 ghost use Rattle.resume.specs.Answers.{told as verdictOf};
 
 pub const DONE: u32 = 0;

@@ -10,18 +10,18 @@ use Rattle.codes.specs.declared.Kind.{Kind}
 use Rattle.codes.specs.declared.Kind.the-variants.{Is as KindIs, Refused as Untyped}
 
 -- a code, or "else none"
-abbrev pub codeTold : Code → ℕ
-codeTold (CodeIs n) = found
-codeTold NoCode = missing
-codeTold (Uncoded e) = number e
+abbrev pub codeAnswer : Code → ℕ
+codeAnswer (CodeIs n) = found
+codeAnswer NoCode = missing
+codeAnswer (Uncoded e) = number e
 
 -- a content length, or no such field
-abbrev pub lengthTold : Length → ℕ
-lengthTold (LengthIs n) = found
-lengthTold NoLength = missing
-lengthTold (Unmeasured e) = number e
+abbrev pub lengthAnswer : Length → ℕ
+lengthAnswer (LengthIs n) = found
+lengthAnswer NoLength = missing
+lengthAnswer (Unmeasured e) = number e
 
 -- a record type; "no field 0"
-abbrev pub kindTold : Kind → ℕ
-kindTold (KindIs n) = found
-kindTold (Untyped e) = number e
+abbrev pub kindAnswer : Kind → ℕ
+kindAnswer (KindIs n) = found
+kindAnswer (Untyped e) = number e

@@ -170,7 +170,7 @@ fn good_place(p: Place, count: usize, mark: usize) -> bool
     }
 }
 
-pub fn good_status(s: Status, count: usize, mark: usize) -> bool
+fn good_status(s: Status, count: usize, mark: usize) -> bool
     ensures { λ r. ⌜ r ≡ goodStatus count mark s ⌝ }
 {
     match s {
@@ -191,7 +191,7 @@ fn good_field(f: Field, count: usize, mark: usize) -> bool
 }
 
 // Whether the first n fields of the table are good.
-pub fn good_fields(t: [Field; 256], n: usize, count: usize, mark: usize) -> bool
+fn good_fields(t: [Field; 256], n: usize, count: usize, mark: usize) -> bool
     requires { ⌜ n ≤ 256 ⌝ }
     ensures { λ r. ⌜ r ≡ goodFields count mark (take n t) ⌝ }
 {
@@ -219,7 +219,7 @@ pub fn good_rooms(limit: usize, room: usize) -> bool
     false
 }
 
-pub fn good_counts(
+fn good_counts(
     limit: usize,
     room: usize,
     count: usize,

@@ -1,6 +1,6 @@
 // The clean test, which asks a map, and the tidy test, which asks octets.
-pub mod scan;
-pub mod texts;
+mod scan;
+mod texts;
 
 use leaves::refusals::Refusal;
 use maps::Checked;

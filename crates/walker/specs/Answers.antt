@@ -14,9 +14,9 @@ told End = fileEnd
 told (Refused e) = number e
 
 -- a walker's start
-abbrev pub startTold : Step → ℕ
-startTold More = done
-startTold (Record start body size kind) = done
-startTold Body = done
-startTold End = done
-startTold (Refused e) = number e
+abbrev pub startAnswer : Step → ℕ
+startAnswer More = done
+startAnswer (Record start body size kind) = done
+startAnswer Body = done
+startAnswer End = done
+startAnswer (Refused e) = number e

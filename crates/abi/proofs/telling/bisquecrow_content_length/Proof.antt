@@ -1,7 +1,7 @@
 -- `abi::telling::bisquecrow_content_length` meets its contract. Assumes nothing.
 use Rattle.abi.proofs.CallLaws.{told-sound, told-damaged}
 use Rattle.abi.specs.Calls.{lengthNumber}
-use Rattle.codes.specs.Answers.{lengthTold as lengthOf}
+use Rattle.codes.specs.Answers.{lengthAnswer as lengthOf}
 use Rattle.codes.specs.declared.Length.{Length}
 use Rattle.encoded.proofs.WholeLaws.{sound-long}
 use borrow.Author.Needs.{needs}

@@ -1,7 +1,7 @@
 -- `abi::telling::bisquecrow_record_type` meets its contract. Assumes nothing.
 use Rattle.abi.proofs.CallLaws.{told-sound, told-damaged}
 use Rattle.abi.specs.Calls.{kindNumber}
-use Rattle.codes.specs.Answers.{kindTold as kindOf}
+use Rattle.codes.specs.Answers.{kindAnswer as kindOf}
 use Rattle.codes.specs.declared.Kind.{Kind}
 use Rattle.encoded.proofs.WholeLaws.{sound-long}
 use borrow.Author.Needs.{needs}

@@ -1,7 +1,7 @@
 -- `abi::telling::bisquecrow_status_code` meets its contract. Assumes nothing.
 use Rattle.abi.proofs.CallLaws.{told-sound, told-damaged}
 use Rattle.abi.specs.Calls.{codeNumber}
-use Rattle.codes.specs.Answers.{codeTold as codeOf}
+use Rattle.codes.specs.Answers.{codeAnswer as codeOf}
 use Rattle.codes.specs.declared.line.Code.{Code}
 use Rattle.encoded.proofs.WholeLaws.{sound-long}
 use borrow.Author.Needs.{needs}
