@@ -16,7 +16,8 @@ use Rattle.maps.specs.declared.HeaderMap.{HeaderMap}
 use Rattle.maps.specs.declared.Status.{Status}
 use Rattle.lookups.specs.Lookups.{finding, statusIn, statusPlace, valuePlace, handedOut, Handed}
 use Rattle.lookups.specs.declared.Found.the-variants.{At, Missing as NotThere, Refused as NotLooked}
-use Rattle.lookups.proofs.HandLaws.{status-fine}
+use Rattle.maps.specs.Said.{textOf, saying}
+use Rattle.lookups.proofs.HandLaws.{status-fine, text-says}
 use Rattle.codes.specs.Line.{statusCode, reasonStart}
 use Rattle.codes.specs.Told.{codeTold}
 use Rattle.codes.specs.Codes.{statusText, coding, reasoning, Phrased, lengthOf, kindOf}
@@ -50,6 +51,11 @@ module _ (m : HeaderMap) (b s : List ℕ) where
     pub phrase-none : reasonStart t ≡ none → None ≡ reasoning m b s
     unfolding reasoning
     phrase-none h = rw (sym e, ← text-fine, h)
+
+  -- the code is that of what the map says
+  pub coding-says : Fine ≡ checkedDone m b s → coding m b s ≡ codeTold (statusCode (textOf (saying m b s .status)))
+  unfolding coding
+  coding-says e = rw (sym e) (ap (λ (l : List ℕ). codeTold (statusCode l)) (text-says m b s e))
 
   -- the reason that is handed out
   module _ (x y : ℕ × ℕ) (t : List ℕ) (w : ℕ × ℕ) (h : Handed b s x y (statusPlace m b s) t w) (r : List ℕ) (z : ℕ × ℕ) where

@@ -21,9 +21,11 @@ use Rattle.maps.specs.declared.Checked.{Checked}
 use Rattle.maps.specs.declared.Checked.the-variants.{Fine, Refused}
 use Rattle.maps.specs.declared.HeaderMap.{HeaderMap}
 use Rattle.maps.proofs.GoodLaws.{goes-on, refused-by, ready-of}
+use Rattle.maps.specs.Said.{statusAt, textOf, saying}
 use Rattle.maps.proofs.PartLaws.{within-begins}
+use Rattle.maps.proofs.SaidLaws.{said-is}
 use Rattle.lookups.specs.declared.Slot.the-variants.{Nothing, At}
-use Rattle.lookups.specs.Lookups.{slotOf, shownStatus, Handed}
+use Rattle.lookups.specs.Lookups.{slotOf, shownStatus, statusIn, statusPlace, handedOut, Handed}
 
 -- one lemma for each of the two kinds of answer
 module _ (b s : List ℕ) (x y : ℕ × ℕ) (r : List ℕ) (z : ℕ × ℕ) where
@@ -109,3 +111,11 @@ module _ (m : HeaderMap) (b s : List ℕ) where
     -- a field that is handed out has its places in their loans
     pub slot-within : (f : Field) → slotOf m b s i ≡ At f → Within b s (f .key) × Within b s (f .value)
     slot-within f h = slot-by (checkedDone m b s) f refl h
+
+-- status hands out that of the map, an empty one for none
+status-in : (b s : List ℕ) (x : Status) → handedOut b s (statusIn x) ≡ textOf (statusAt b s x)
+status-in b s Absent = refl
+status-in b s (Stands p) = refl
+
+pub text-says : (m : HeaderMap) (b s : List ℕ) → Fine ≡ checkedDone m b s → handedOut b s (statusPlace m b s) ≡ textOf (saying m b s .status)
+text-says m b s fine = rw (status-fine m b s fine, said-is m b s) (status-in b s (m .status))

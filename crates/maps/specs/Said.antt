@@ -1,6 +1,6 @@
 -- What a map says: its status and its fields, as octets. Assumes nothing.
 use mathlib.Core.Bool.{Bool}
-use mathlib.Core.List.{List, map}
+use mathlib.Core.List.{List, [], map}
 use mathlib.Core.Option.{Option, none, some}
 use Prim.Native.Nat.{ℕ}
 use Rattle.leaves.specs.Name.{sameName}
@@ -31,6 +31,11 @@ called name x = sameName (x .key) name
 abbrev pub statusAt : List ℕ → List ℕ → Status → Option (List ℕ)
 statusAt b s Absent = none
 statusAt b s (At p) = some (at b s p)
+
+-- the octets of a status; none if it is absent
+abbrev pub textOf : Option (List ℕ) → List ℕ
+textOf none = []
+textOf (some t) = t
 
 unfoldable pub saying : HeaderMap → List ℕ → List ℕ → Said
 saying m b s = record { status = statusAt b s (m .status); pairs = map (pairAt b s) (live m) }

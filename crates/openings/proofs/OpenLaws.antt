@@ -2,6 +2,7 @@
 use mathlib.Core.Path.{_≡_, refl, sym, ap, _∙_}
 use mathlib.Core.Bool.{Bool, true, false}
 use mathlib.Core.List.{List}
+use mathlib.Core.Option.{Option, none, some}
 use Prim.Native.Nat.{ℕ, min, _≤_, _<_}
 use native.Mathlib.Omega.{arith}
 use borrow.Author.Tests.{le-leb, lt-leb, leb-true, leb-false}
@@ -17,15 +18,13 @@ use Rattle.standard.specs.Types.{typeCode}
 use Rattle.standard.specs.declared.names.WarcHeader.the-variants.{WarcType, ContentLength}
 use Rattle.maps.specs.Good.{checkedDone}
 use Rattle.maps.specs.declared.Checked.the-variants.{Fine, Refused as Bad}
-use Rattle.maps.specs.declared.Status.{Status}
-use Rattle.maps.specs.declared.Status.the-variants.{Absent, At as Stands}
 use Rattle.maps.specs.declared.HeaderMap.{HeaderMap}
 use Rattle.maps.proofs.GoodLaws.{goes-on, refused-by}
-use Rattle.maps.specs.Said.{saying, statusAt}
-use Rattle.lookups.specs.Lookups.{finding, statusIn, statusPlace, valuePlace, handedOut}
+use Rattle.maps.specs.Said.{textOf, saying}
+use Rattle.lookups.specs.Lookups.{finding, statusPlace, valuePlace, handedOut}
 use Rattle.lookups.specs.declared.Found.{Found}
 use Rattle.lookups.specs.declared.Found.the-variants.{At, Missing, Refused as NotLooked}
-use Rattle.lookups.proofs.HandLaws.{status-fine}
+use Rattle.lookups.proofs.HandLaws.{text-says}
 use Rattle.codes.specs.Codes.{kindOf}
 use Rattle.codes.specs.declared.Kind.the-variants.{Is as IsKind, Refused as NoKind}
 use Rattle.codes.proofs.MapLaws.{kind-found, kind-missing}
@@ -70,16 +69,14 @@ length-is v n t e =
     omega arith
 
 module _ (m : HeaderMap) (b s : List ℕ) where
-  version-by : (x : Status) → versionText (trimmed (handedOut b s (statusIn x))) ≡ isVersion (statusAt b s x)
+  version-by : (x : Option (List ℕ)) → versionText (trimmed (textOf x)) ≡ isVersion x
   unfolding sameList trimEnd trimStart leading
-  version-by Absent = refl
-  version-by (Stands p) = refl
+  version-by none = refl
+  version-by (some t) = refl
 
   module _ (e : Fine ≡ checkedDone m b s) where
     pub version-is : (t : List ℕ) → t ≡ trimmed (handedOut b s (statusPlace m b s)) → versionText t ≡ isVersion (saying m b s .status)
-    unfolding saying
-    version-is t h =
-        ap versionText (h ∙ ap (λ (x : Status). trimmed (handedOut b s (statusIn x))) (status-fine m b s e)) ∙ version-by (m .status)
+    version-is t h = ap versionText (h ∙ ap trimmed (text-says m b s e)) ∙ version-by (saying m b s .status)
 
     kind-is : kindOf m b s ≡ IsKind (typeOf (valuesOf (nameOf WarcType) (saying m b s .pairs)))
     kind-is = by (finding m b s (nameOf WarcType) 0) refl

@@ -1,1 +1,2 @@
 pub mod ResumeLaws
+pub mod AppendLaws

@@ -1,6 +1,6 @@
 -- The edits and the lookups at the level of what a map says. Assumes nothing.
 use mathlib.Core.List.{List, [], _∷_, _++_}
-use mathlib.Core.Option.{Option, none, some}
+use mathlib.Core.Option.{some}
 use Prim.Native.Nat.{ℕ}
 use lib.ListN.{drop}
 use Rattle.maps.specs.Good.{checkedDone}
@@ -33,11 +33,6 @@ statusSaid t x = record { status = some t; pairs = x .pairs }
 -- "A lookup from a given field number on gives missing or a field number."
 abbrev pub findSaid : List ℕ → ℕ → Said → Found
 findSaid name from x = seeking (called name) from (drop from (x .pairs))
-
--- the octets of a status; none if it is absent
-abbrev pub textOf : Option (List ℕ) → List ℕ
-textOf none = []
-textOf (some t) = t
 
 -- what the map of an edit says then, and what the next call's first checks say of it
 abbrev pub after : Given Edited → Said
