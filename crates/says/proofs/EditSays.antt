@@ -1,7 +1,7 @@
 -- The laws of the edits: what the map says then, that it can be used again, what a refused edit leaves. Assumes nothing.
 use mathlib.Core.Path.{_≡_, sym, ap, _∙_}
 use mathlib.Core.Bool.{Bool, true, false}
-use mathlib.Core.List.{List, [], _++_}
+use mathlib.Core.List.{List, [], _∷_, _++_}
 use Prim.Native.Nat.{ℕ, _+_, _≤_}
 use native.Mathlib.Omega.{arith}
 use lib.ListN.{length}
@@ -9,7 +9,7 @@ use Rattle.leaves.specs.Paste.{pasted}
 use Rattle.leaves.specs.Sanitise.{sanitised}
 use Rattle.leaves.specs.declared.refusals.Refusal.{Refusal}
 use Rattle.maps.specs.Places.{at}
-use Rattle.maps.specs.Good.{checkedDone, Fits, in-store, FitAll, fit-none, fit-more, fit-at}
+use Rattle.maps.specs.Good.{live, checkedDone, Fits, in-store, FitAll, fit-none, fit-more, fit-at}
 use Rattle.maps.specs.Maps.{Given}
 use Rattle.maps.specs.declared.Field.{Field}
 use Rattle.maps.specs.declared.Place.{Place}
@@ -17,12 +17,14 @@ use Rattle.maps.specs.declared.Checked.the-variants.{Fine}
 use Rattle.maps.specs.declared.HeaderMap.{HeaderMap}
 use Rattle.maps.proofs.GoodLaws.{ready-of}
 use Rattle.maps.specs.Said.{saying}
+use Rattle.lookups.specs.Lookups.{named}
 use Rattle.edits.specs.declared.Edit.the-variants.{Done, Refused}
 use Rattle.edits.specs.declared.Edited.{Edited}
-use Rattle.edits.specs.Edits.{withFields, refusing, setting, appending, removing, statusing}
+use Rattle.edits.specs.Fields.{replaced}
+use Rattle.edits.specs.Edits.{withFields, withStatus, refusing, filled, leaving, thinned}
 use Rattle.edits.proofs.FieldLaws.{status-up, all-up, joined-fit, keeps-fit, replaced-fit}
 use Rattle.edits.proofs.OutcomeLaws.{Made, Outcome, left, made, made-of, left-of, setting-outcome, appending-outcome, removing-outcome, statusing-outcome}
-use Rattle.says.specs.Says.{setSaid, appendSaid, removeSaid, statusSaid, after, usable}
+use Rattle.says.specs.Says.{Ask, ask-set, ask-append, ask-remove, ask-status, asked, askSaid, after, usable}
 use Rattle.says.proofs.KeptLaws.{place-kept}
 use Rattle.says.proofs.AgainLaws.{again, pasted-long, new-fits}
 use Rattle.says.proofs.MadeSays.{laid-live, kept-says, set-made, append-made, status-made}
@@ -54,81 +56,65 @@ module _ (m : HeaderMap) (b s : List ℕ) where
       made-usable d
       (again m b s (d .fine) _ _ _ mark edited (d .few) h (status-up (m .count) (m .mark) mark up (w .status)) (rw (laid-live (m .table) xs) f) (pasted s (m .mark) t) (long d))
 
-  module _ (key value : List ℕ) where
-    -- the law of set
-    pub set-says : setting m b s key value .result .answer ≡ Done → after (setting m b s key value) ≡ setSaid (sanitised true key) (sanitised false value) (saying m b s)
-    set-says e =
-        let d = made-of (setting-outcome m b s key value) e in
-        made-says d ∙ set-made m b s (d .fine) _ _ _ _
+-- the map that an edit makes, and the text that it puts at the mark
+abbrev madeBy : Ask → HeaderMap → List ℕ → List ℕ → HeaderMap
+madeBy (ask-set k v) m b s = filled m (λ new. replaced (named b s (sanitised true k)) new (live m)) (sanitised true k) (sanitised false v)
+madeBy (ask-append k v) m b s = filled m (λ new. live m ++ (new ∷ [])) (sanitised true k) (sanitised false v)
+madeBy (ask-remove k) m b s = thinned m (leaving m b s k)
+madeBy (ask-status t) m b s = withStatus m (length (sanitised true t))
 
-    pub set-again : setting m b s key value .result .answer ≡ Done → Fine ≡ usable (setting m b s key value)
-    set-again e =
-        let d = made-of (setting-outcome m b s key value) e in
-        let w = ready-of _ m b s (d .fine) in
-        let up : m .mark ≤ m .mark + length (sanitised true key ++ sanitised false value) = omega arith in
-        fields-again _ _ _ d up (d .fits) (replaced-fit _ _ _ _ (new-fits _ _ (sanitised true key) (sanitised false value)) _ (all-up (m .count) (m .mark) _ up (w .fields)))
+abbrev textBy : Ask → List ℕ
+textBy (ask-set k v) = sanitised true k ++ sanitised false v
+textBy (ask-append k v) = sanitised true k ++ sanitised false v
+textBy (ask-remove k) = []
+textBy (ask-status t) = sanitised true t
 
-    pub set-stays : {p : Place} → Fits (m .count) (m .mark) p → at (setting m b s key value .block) (setting m b s key value .store) p ≡ at b s p
-    set-stays f = octets-stay (setting-outcome m b s key value) f
+module _ (m : HeaderMap) (b s : List ℕ) where
+  ask-outcome : (a : Ask) → Outcome m b s (madeBy a m b s) (textBy a) (asked a m b s)
+  ask-outcome (ask-set k v) = setting-outcome m b s k v
+  ask-outcome (ask-append k v) = appending-outcome m b s k v
+  ask-outcome (ask-remove k) = removing-outcome m b s k
+  ask-outcome (ask-status t) = statusing-outcome m b s t
 
-    pub set-left : (x : Refusal) → setting m b s key value .result .answer ≡ Refused x → setting m b s key value ≡ refusing m b s x
-    set-left x e = left-of (setting-outcome m b s key value) x e
+  ask-made : (a : Ask) → asked a m b s .result .answer ≡ Done → Made m b s (madeBy a m b s) (textBy a) (asked a m b s)
+  ask-made a e = made-of (ask-outcome a) e
 
-    -- the law of append
-    pub append-says : appending m b s key value .result .answer ≡ Done → after (appending m b s key value) ≡ appendSaid (sanitised true key) (sanitised false value) (saying m b s)
-    append-says e =
-        let d = made-of (appending-outcome m b s key value) e in
-        made-says d ∙ append-made m b s (d .fine) _ _ _ _
+  -- what the map says then
+  says-by : (a : Ask) → Fine ≡ checkedDone m b s → saying (madeBy a m b s) b (pasted s (m .mark) (textBy a)) ≡ askSaid a (saying m b s)
+  says-by (ask-set k v) f = set-made m b s f _ _ _ _
+  says-by (ask-append k v) f = append-made m b s f _ _ _ _
+  says-by (ask-remove k) f = kept-says m b s f [] _ _ _
+  says-by (ask-status t) f = status-made m b s f _
 
-    pub append-again : appending m b s key value .result .answer ≡ Done → Fine ≡ usable (appending m b s key value)
-    append-again e =
-        let d = made-of (appending-outcome m b s key value) e in
-        let w = ready-of _ m b s (d .fine) in
-        let up : m .mark ≤ m .mark + length (sanitised true key ++ sanitised false value) = omega arith in
-        fields-again _ _ _ d up (d .fits) (joined-fit _ _ (all-up (m .count) (m .mark) _ up (w .fields)) (fit-more (new-fits _ _ (sanitised true key) (sanitised false value)) fit-none))
+  pub ask-says : (a : Ask) → asked a m b s .result .answer ≡ Done → after (asked a m b s) ≡ askSaid a (saying m b s)
+  ask-says a e = let d = ask-made a e in made-says d ∙ says-by a (d .fine)
 
-    pub append-stays : {p : Place} → Fits (m .count) (m .mark) p → at (appending m b s key value .block) (appending m b s key value .store) p ≡ at b s p
-    append-stays f = octets-stay (appending-outcome m b s key value) f
+  -- the map can be used again
+  again-by : (a : Ask) → Made m b s (madeBy a m b s) (textBy a) (asked a m b s) → Fine ≡ usable (asked a m b s)
+  again-by (ask-set k v) d =
+      let w = ready-of _ m b s (d .fine) in
+      let up : m .mark ≤ m .mark + length (textBy (ask-set k v)) = omega arith in
+      fields-again m b s _ _ _ d up (d .fits) (replaced-fit _ _ _ _ (new-fits _ _ (sanitised true k) (sanitised false v)) _ (all-up (m .count) (m .mark) _ up (w .fields)))
+  again-by (ask-append k v) d =
+      let w = ready-of _ m b s (d .fine) in
+      let up : m .mark ≤ m .mark + length (textBy (ask-append k v)) = omega arith in
+      fields-again m b s _ _ _ d up (d .fits) (joined-fit _ _ (all-up (m .count) (m .mark) _ up (w .fields)) (fit-more (new-fits _ _ (sanitised true k) (sanitised false v)) fit-none))
+  again-by (ask-remove k) d =
+      let w = ready-of _ m b s (d .fine) in
+      fields-again m b s _ _ _ d (omega arith) (w .mark) (keeps-fit _ _ _ _ (w .fields))
+  again-by (ask-status t) d =
+      let w = ready-of _ m b s (d .fine) in
+      let up : m .mark ≤ m .mark + length (sanitised true t) = omega arith in
+      made-usable d
+      (again m b s (d .fine) _ _ _ _ _ (d .few) (d .fits) (fit-at (in-store _ _ up (omega arith))) (all-up (m .count) (m .mark) _ up (w .fields)) (pasted s (m .mark) (sanitised true t)) (long d))
 
-    pub append-left : (x : Refusal) → appending m b s key value .result .answer ≡ Refused x → appending m b s key value ≡ refusing m b s x
-    append-left x e = left-of (appending-outcome m b s key value) x e
+  pub ask-again : (a : Ask) → asked a m b s .result .answer ≡ Done → Fine ≡ usable (asked a m b s)
+  ask-again a e = again-by a (ask-made a e)
 
-  module _ (key : List ℕ) where
-    -- the law of remove
-    pub remove-says : removing m b s key .result .answer ≡ Done → after (removing m b s key) ≡ removeSaid (sanitised true key) (saying m b s)
-    remove-says e =
-        let d = made-of (removing-outcome m b s key) e in
-        made-says d ∙ kept-says m b s (d .fine) [] _ _ _
+  -- no other text changes
+  pub ask-stays : (a : Ask) (p : Place) → Fits (m .count) (m .mark) p → at (asked a m b s .block) (asked a m b s .store) p ≡ at b s p
+  ask-stays a p f = octets-stay (ask-outcome a) {p = p} f
 
-    pub remove-again : removing m b s key .result .answer ≡ Done → Fine ≡ usable (removing m b s key)
-    remove-again e =
-        let d = made-of (removing-outcome m b s key) e in
-        let w = ready-of _ m b s (d .fine) in
-        fields-again _ _ _ d (omega arith) (w .mark) (keeps-fit _ _ _ _ (w .fields))
-
-    pub remove-stays : {p : Place} → Fits (m .count) (m .mark) p → at (removing m b s key .block) (removing m b s key .store) p ≡ at b s p
-    remove-stays f = octets-stay (removing-outcome m b s key) f
-
-    pub remove-left : (x : Refusal) → removing m b s key .result .answer ≡ Refused x → removing m b s key ≡ refusing m b s x
-    remove-left x e = left-of (removing-outcome m b s key) x e
-
-  module _ (text : List ℕ) where
-    -- the law of set status
-    pub status-says : statusing m b s text .result .answer ≡ Done → after (statusing m b s text) ≡ statusSaid (sanitised true text) (saying m b s)
-    status-says e =
-        let d = made-of (statusing-outcome m b s text) e in
-        made-says d ∙ status-made m b s (d .fine) _
-
-    pub status-again : statusing m b s text .result .answer ≡ Done → Fine ≡ usable (statusing m b s text)
-    status-again e =
-        let d = made-of (statusing-outcome m b s text) e in
-        let w = ready-of _ m b s (d .fine) in
-        let up : m .mark ≤ m .mark + length (sanitised true text) = omega arith in
-        made-usable d
-        (again m b s (d .fine) _ _ _ _ _ (d .few) (d .fits) (fit-at (in-store _ _ up (omega arith))) (all-up (m .count) (m .mark) _ up (w .fields)) (pasted s (m .mark) (sanitised true text)) (long d))
-
-    pub status-stays : {p : Place} → Fits (m .count) (m .mark) p → at (statusing m b s text .block) (statusing m b s text .store) p ≡ at b s p
-    status-stays f = octets-stay (statusing-outcome m b s text) f
-
-    pub status-left : (x : Refusal) → statusing m b s text .result .answer ≡ Refused x → statusing m b s text ≡ refusing m b s x
-    status-left x e = left-of (statusing-outcome m b s text) x e
+  -- a refused edit leaves all
+  pub ask-left : (a : Ask) (x : Refusal) → asked a m b s .result .answer ≡ Refused x → asked a m b s ≡ refusing m b s x
+  ask-left a x e = left-of (ask-outcome a) x e

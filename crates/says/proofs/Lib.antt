@@ -3,3 +3,4 @@ pub mod AgainLaws
 pub mod MadeSays
 pub mod EditSays
 pub mod LookupSays
+pub mod EditsHold

@@ -1,15 +1,19 @@
 -- The edits and the lookups at the level of what a map says. Assumes nothing.
+use mathlib.Core.Bool.{true, false}
 use mathlib.Core.List.{List, [], _∷_, _++_}
 use mathlib.Core.Option.{some}
 use Prim.Native.Nat.{ℕ}
 use lib.ListN.{drop}
+use Rattle.leaves.specs.Sanitise.{sanitised}
 use Rattle.maps.specs.Good.{checkedDone}
 use Rattle.maps.specs.Maps.{Given}
 use Rattle.maps.specs.declared.Checked.{Checked}
+use Rattle.maps.specs.declared.HeaderMap.{HeaderMap}
 use Rattle.maps.specs.Said.{Pair, Said, called, saying}
 use Rattle.lookups.specs.Lookups.{seeking}
 use Rattle.lookups.specs.declared.Found.{Found}
 use Rattle.edits.specs.Fields.{keeps, replaced}
+use Rattle.edits.specs.Edits.{setting, appending, removing, statusing}
 use Rattle.edits.specs.declared.Edited.{Edited}
 
 -- a key and a value as a pair
@@ -29,6 +33,27 @@ removeSaid k x = record { status = x .status; pairs = keeps (called k) (x .pairs
 
 abbrev pub statusSaid : List ℕ → Said → Said
 statusSaid t x = record { status = some t; pairs = x .pairs }
+
+-- an edit as it is asked for, with the texts that were given
+pub data Ask : Type 0 where
+  ask-set : (key value : List ℕ) → Ask
+  ask-append : (key value : List ℕ) → Ask
+  ask-remove : (key : List ℕ) → Ask
+  ask-status : (text : List ℕ) → Ask
+
+-- the call that is made
+abbrev pub asked : Ask → HeaderMap → List ℕ → List ℕ → Given Edited
+asked (ask-set key value) m b s = setting m b s key value
+asked (ask-append key value) m b s = appending m b s key value
+asked (ask-remove key) m b s = removing m b s key
+asked (ask-status text) m b s = statusing m b s text
+
+-- what it makes of what a map says: the texts are sanitised, "in keys and status lines" without colons
+abbrev pub askSaid : Ask → Said → Said
+askSaid (ask-set key value) x = setSaid (sanitised true key) (sanitised false value) x
+askSaid (ask-append key value) x = appendSaid (sanitised true key) (sanitised false value) x
+askSaid (ask-remove key) x = removeSaid (sanitised true key) x
+askSaid (ask-status text) x = statusSaid (sanitised true text) x
 
 -- "A lookup from a given field number on gives missing or a field number."
 abbrev pub findSaid : List ℕ → ℕ → Said → Found

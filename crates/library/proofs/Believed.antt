@@ -1,0 +1,8 @@
+-- The pages to believe hold. Assumes nothing.
+use Rattle.demands.proofs.Answers.{answered as demands-answered}
+use Rattle.records.proofs.Files.{answered as walks-answered}
+use Rattle.library.specs.Library.{Library}
+use Rattle.library.proofs.Contracts.{leaves, maps, calls, exports}
+
+pub believed : Library
+believed = record { leaves = leaves; maps = maps; calls = calls; exports = exports; demands = demands-answered; walks = walks-answered }

@@ -1,0 +1,78 @@
+-- For C and Rust: maps and walkers as octets, and the exported functions. Each public function with what its contract hands to a caller. `proofs/Contracts` inhabits it. Assumes nothing.
+use mathlib.Core.List.{[], _∷_}
+use mathlib.Core.Path.{_≡_}
+use lib.ListN.{length}
+use denote.Ref.{now}
+use Rattle.leaves.specs.Paste.{pasted}
+use Rattle.encoded.specs.Standing.{decodedWalker, encodedWalker, soundWalker}
+use Rattle.encoded.specs.Whole.{decoded, encoded, sound, soundMap}
+use Rattle.abi.specs.Calls.{Gave, Lies, Puts, Tells, appendGives, beginGives, cleanTells, clearGives, codeTells, endGives, equalTells, feedGives, findTells, finishGives, grammarTells, keyLies, kindTells, lengthTells, rebuildPuts, removeGives, resumeTells, setGives, statusGives, statusLies, tidyTells, valueLies, walkGives, walkerGives, writePuts}
+use Rattle.library.specs.Says.{Says, first, second, third, fourth, fifth, sixth, seventh}
+
+pub record Exports : Type 0 where
+  -- maps and walkers as octets
+  -- encode(m, out)
+  pub encode : Says Rattle.encoded.proofs.encode.Reads.Learnt (λ κ a r e. (now (second e) ≡ pasted (now (second a)) 0 (encoded (first a))) × (length (encoded (first a)) ≡ 6208))
+  -- decode(s)
+  pub decode : Says Rattle.encoded.proofs.decode.Reads.Learnt (λ κ a r e. r ≡ decoded (now (first a)))
+  -- begins_soundly(s)
+  pub begins-soundly : Says Rattle.encoded.proofs.begins_soundly.Reads.Learnt (λ κ a r e. r ≡ soundMap (now (first a)))
+  -- is_sound(s)
+  pub is-sound : Says Rattle.encoded.proofs.is_sound.Reads.Learnt (λ κ a r e. r ≡ sound (now (first a)))
+  -- walkers::encode_walker(w, out)
+  pub encode-walker : Says Rattle.encoded.proofs.walkers.encode_walker.Reads.Learnt (λ κ a r e. (now (second e) ≡ pasted (now (second a)) 0 (encodedWalker (first a))) × (length (encodedWalker (first a)) ≡ 6240))
+  -- walkers::decode_walker(s)
+  pub decode-walker : Says Rattle.encoded.proofs.walkers.decode_walker.Reads.Learnt (λ κ a r e. r ≡ decodedWalker (now (first a)))
+  -- walkers::is_sound_walker(s)
+  pub is-sound-walker : Says Rattle.encoded.proofs.walkers.is_sound_walker.Reads.Learnt (λ κ a r e. r ≡ soundWalker (now (first a)))
+  -- the exported functions
+  -- bisquecrow_set(map, block, store, key, value)
+  pub set : Says Rattle.abi.proofs.editing.bisquecrow_set.Reads.Learnt (λ κ a r e. Gave (setGives (now (first a)) (now (second a)) (now (third a)) (now (fourth a)) (now (fifth a))) r [] (now (first e)) (now (second a)) (now (third e)))
+  -- bisquecrow_append(map, block, store, key, value)
+  pub append : Says Rattle.abi.proofs.editing.bisquecrow_append.Reads.Learnt (λ κ a r e. Gave (appendGives (now (first a)) (now (second a)) (now (third a)) (now (fourth a)) (now (fifth a))) r [] (now (first e)) (now (second a)) (now (third e)))
+  -- bisquecrow_remove(map, block, store, key)
+  pub remove : Says Rattle.abi.proofs.editing.bisquecrow_remove.Reads.Learnt (λ κ a r e. Gave (removeGives (now (first a)) (now (second a)) (now (third a)) (now (fourth a))) r [] (now (first e)) (now (second a)) (now (third a)))
+  -- bisquecrow_set_status(map, block, store, text)
+  pub set-status : Says Rattle.abi.proofs.editing.bisquecrow_set_status.Reads.Learnt (λ κ a r e. Gave (statusGives (now (first a)) (now (second a)) (now (third a)) (now (fourth a))) r [] (now (first e)) (now (second a)) (now (third e)))
+  -- bisquecrow_find(map, block, store, name, from, number)
+  pub find : Says Rattle.abi.proofs.looking.bisquecrow_find.Reads.Learnt (λ κ a r e. Tells (findTells (now (first a)) (now (sixth a)) (now (second a)) (now (third a)) (now (fourth a)) (fifth a)) r (now (sixth e)))
+  -- bisquecrow_value(map, block, store, number, from, to)
+  pub value : Says Rattle.abi.proofs.looking.bisquecrow_value.Reads.Learnt (λ κ a r e. Lies (valueLies (now (first a)) (now (fifth a)) (now (sixth a)) (now (second a)) (now (third a)) (fourth a)) r (now (fifth e)) (now (sixth e)))
+  -- bisquecrow_key(map, block, store, number, from, to)
+  pub key : Says Rattle.abi.proofs.looking.bisquecrow_key.Reads.Learnt (λ κ a r e. Lies (keyLies (now (first a)) (now (fifth a)) (now (sixth a)) (now (second a)) (now (third a)) (fourth a)) r (now (fifth e)) (now (sixth e)))
+  -- bisquecrow_status(map, block, store, from, to)
+  pub status : Says Rattle.abi.proofs.looking.bisquecrow_status.Reads.Learnt (λ κ a r e. Lies (statusLies (now (first a)) (now (fourth a)) (now (fifth a)) (now (second a)) (now (third a))) r (now (fourth e)) (now (fifth e)))
+  -- bisquecrow_begin(map, limit, room, awaits, quirks, block, store)
+  pub begin : Says Rattle.abi.proofs.reading.bisquecrow_begin.Reads.Learnt (λ κ a r e. Gave (beginGives (now (first a)) (second a) (third a) (fourth a) (fifth a) (now (sixth a)) (now (seventh a))) r [] (now (first e)) (now (sixth a)) (now (seventh a)))
+  -- bisquecrow_feed(map, block, store, piece, taken)
+  pub feed : Says Rattle.abi.proofs.reading.bisquecrow_feed.Reads.Learnt (λ κ a r e. Gave (feedGives (now (first a)) (now (fifth a)) (now (second a)) (now (third a)) (now (fourth a))) r (now (fifth e) ∷ []) (now (first e)) (now (second e)) (now (third e)))
+  -- bisquecrow_finish(map, block, store)
+  pub finish : Says Rattle.abi.proofs.reading.bisquecrow_finish.Reads.Learnt (λ κ a r e. Gave (finishGives (now (first a)) (now (second a)) (now (third a))) r [] (now (first e)) (now (second a)) (now (third e)))
+  -- bisquecrow_clear(map, block, store)
+  pub clear : Says Rattle.abi.proofs.reading.bisquecrow_clear.Reads.Learnt (λ κ a r e. Gave (clearGives (now (first a)) (now (second a)) (now (third a))) r [] (now (first e)) (now (second a)) (now (third a)))
+  -- bisquecrow_status_code(map, block, store, code)
+  pub status-code : Says Rattle.abi.proofs.telling.bisquecrow_status_code.Reads.Learnt (λ κ a r e. Tells (codeTells (now (first a)) (now (fourth a)) (now (second a)) (now (third a))) r (now (fourth e)))
+  -- bisquecrow_content_length(map, block, store, length)
+  pub content-length : Says Rattle.abi.proofs.telling.bisquecrow_content_length.Reads.Learnt (λ κ a r e. Tells (lengthTells (now (first a)) (now (fourth a)) (now (second a)) (now (third a))) r (now (fourth e)))
+  -- bisquecrow_record_type(map, block, store, code)
+  pub record-type : Says Rattle.abi.proofs.telling.bisquecrow_record_type.Reads.Learnt (λ κ a r e. Tells (kindTells (now (first a)) (now (fourth a)) (now (second a)) (now (third a))) r (now (fourth e)))
+  -- bisquecrow_clean(map, block, store)
+  pub clean : Says Rattle.abi.proofs.telling.bisquecrow_clean.Reads.Learnt (λ κ a r e. r ≡ cleanTells (now (first a)) (now (second a)) (now (third a)))
+  -- bisquecrow_tidy(octets, awaits, quirks, limit)
+  pub tidy : Says Rattle.abi.proofs.telling.bisquecrow_tidy.Reads.Learnt (λ κ a r e. r ≡ tidyTells (now (first a)) (second a) (third a) (fourth a))
+  -- bisquecrow_grammatical(octets)
+  pub grammatical : Says Rattle.abi.proofs.telling.bisquecrow_grammatical.Reads.Learnt (λ κ a r e. r ≡ grammarTells (now (first a)))
+  -- bisquecrow_equal(one, block, store, two, block2, store2)
+  pub equal : Says Rattle.abi.proofs.telling.bisquecrow_equal.Reads.Learnt (λ κ a r e. r ≡ equalTells (now (first a)) (now (second a)) (now (third a)) (now (fourth a)) (now (fifth a)) (now (sixth a)))
+  -- bisquecrow_resume(one, block, store, two, block2, store2)
+  pub resume : Says Rattle.abi.proofs.telling.bisquecrow_resume.Reads.Learnt (λ κ a r e. r ≡ resumeTells (now (first a)) (now (second a)) (now (third a)) (now (fourth a)) (now (fifth a)) (now (sixth a)))
+  -- bisquecrow_walker(walker, room, position, block, store)
+  pub walker : Says Rattle.abi.proofs.walking.bisquecrow_walker.Reads.Learnt (λ κ a r e. Gave (walkerGives (now (first a)) (second a) (third a) (now (fourth a)) (now (fifth a))) r [] (now (first e)) (now (fourth a)) (now (fifth a)))
+  -- bisquecrow_walk(walker, block, store, piece, taken, record)
+  pub walk : Says Rattle.abi.proofs.walking.bisquecrow_walk.Reads.Learnt (λ κ a r e. Gave (walkGives (now (first a)) (now (fifth a)) (now (sixth a)) (now (second a)) (now (third a)) (now (fourth a))) r (now (fifth e) ∷ (now (sixth e))) (now (first e)) (now (second e)) (now (third e)))
+  -- bisquecrow_end(walker, block, store)
+  pub end : Says Rattle.abi.proofs.walking.bisquecrow_end.Reads.Learnt (λ κ a r e. Gave (endGives (now (first a)) (now (second a)) (now (third a))) r [] (now (first e)) (now (second a)) (now (third a)))
+  -- bisquecrow_write(map, block, store, out, count)
+  pub write : Says Rattle.abi.proofs.writing.bisquecrow_write.Reads.Learnt (λ κ a r e. Puts (writePuts (now (first a)) (now (fifth a)) (now (second a)) (now (third a)) (now (fourth a))) r (now (fifth e)) (now (fourth e)))
+  -- bisquecrow_rebuild(map, block, store, out, count)
+  pub rebuild : Says Rattle.abi.proofs.writing.bisquecrow_rebuild.Reads.Learnt (λ κ a r e. Puts (rebuildPuts (now (first a)) (now (fifth a)) (now (second a)) (now (third a)) (now (fourth a))) r (now (fifth e)) (now (fourth e)))

@@ -1,0 +1,6 @@
+pub mod Says
+pub mod Leaves
+pub mod Maps
+pub mod Calls
+pub mod Exports
+pub mod Library

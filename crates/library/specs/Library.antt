@@ -1,0 +1,15 @@
+-- The pages to believe, as one: what each contract hands to a caller, and what is asked of the library. `proofs/Believed` inhabits it. Assumes nothing.
+use Rattle.demands.specs.Demands.{Demands}
+use Rattle.records.specs.Walks.{Walks}
+use Rattle.library.specs.Leaves.{Leaves}
+use Rattle.library.specs.Maps.{Maps}
+use Rattle.library.specs.Calls.{Calls}
+use Rattle.library.specs.Exports.{Exports}
+
+pub record Library : Type 0 where
+  pub leaves : Leaves
+  pub maps : Maps
+  pub calls : Calls
+  pub exports : Exports
+  pub demands : Demands
+  pub walks : Walks
