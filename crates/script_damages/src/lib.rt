@@ -1,4 +1,4 @@
-// The word `x`: one number of a map overwritten, to try damaged maps.
+// The word `x`: one number of a map, or of the walker around it, overwritten, to try damaged maps and walkers.
 mod names;
 
 use maps::BlockOffset;
@@ -11,7 +11,7 @@ use maps::StoreOffset;
 use names::Name;
 use script_inputs::Cursor;
 
-// What of a map is overwritten, and by what.
+// What is overwritten, and by what.
 pub enum Damage {
     None,
     Number(Part, usize),
@@ -21,7 +21,7 @@ pub enum Damage {
     Value(usize, Place),
 }
 
-// The numbers and flags of a map.
+// The numbers and flags of a map, and of the walker around it the body rest and the position.
 pub enum Part {
     Limit,
     Room,
@@ -32,6 +32,8 @@ pub enum Part {
     Awaits,
     Quirks,
     Edited,
+    Rest,
+    Position,
 }
 
 // Where the word made no sense, the cursor's column says where.
@@ -264,7 +266,7 @@ pub fn read(typed: &mut [u8], c: Cursor) -> Told {
     nonsense(c)
 }
 
-// The map with a number or flag anew.
+// The map with a number or flag anew; a walker's number is none of it.
 fn with_number(m: HeaderMap, part: Part, n: usize) -> HeaderMap {
     let mut m = m;
     match part {
@@ -277,6 +279,8 @@ fn with_number(m: HeaderMap, part: Part, n: usize) -> HeaderMap {
         Part::Awaits => m.awaits = n == 1,
         Part::Quirks => m.quirks = n == 1,
         Part::Edited => m.edited = n == 1,
+        Part::Rest => {}
+        Part::Position => {}
     }
     m
 }

@@ -24,6 +24,16 @@ fn flag(name: &[u8]) -> Name {
     if is(name, b"edited") {
         return Name::Number(Part::Edited);
     }
+    walkers(name)
+}
+
+fn walkers(name: &[u8]) -> Name {
+    if is(name, b"rest") {
+        return Name::Number(Part::Rest);
+    }
+    if is(name, b"position") {
+        return Name::Number(Part::Position);
+    }
     Name::Other
 }
 

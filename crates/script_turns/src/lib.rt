@@ -1,5 +1,7 @@
 // The words that change the state of a line: its map, its walker or its kept map.
 use maps::HeaderMap;
+use script_damages::Damage;
+use script_damages::Part;
 use script_orders::Order;
 use script_states::Left;
 use script_states::State;
@@ -42,11 +44,35 @@ fn begun(
     with_map(s, map, t.at)
 }
 
+fn long(n: usize) -> u64 {
+    n as u64
+}
+
+// The walker with a number anew that is none of its map's.
+fn with_number(w: Walker, part: Part, n: usize) -> Walker {
+    let mut w = w;
+    match part {
+        Part::Rest => w.rest = long(n),
+        Part::Position => w.position = long(n),
+        _ => {}
+    }
+    w
+}
+
+fn with_damage(w: Walker, damage: Damage) -> Walker {
+    match damage {
+        Damage::Number(part, n) => with_number(w, part, n),
+        _ => w,
+    }
+}
+
 // The word `x`.
 fn damaged(said: &mut [u8], at: usize, s: State, o: Order) -> Left {
     let damage = o.damage;
     let map = script_damages::damaged(script_states::map_of(s), damage);
-    with_map(s, map, prints::character(said, at, b'x'))
+    let mut w = s.walker;
+    w.map = map;
+    with_walker(s, with_damage(w, damage), prints::character(said, at, b'x'))
 }
 
 // The other words that change the map.
@@ -83,10 +109,6 @@ fn of_map(
         b'x' => damaged(said, at, s, o),
         _ => changed(said, at, s, o, desk, block, store),
     }
-}
-
-fn long(n: usize) -> u64 {
-    n as u64
 }
 
 // The word `ws`.
