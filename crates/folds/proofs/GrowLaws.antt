@@ -8,7 +8,7 @@ use native.Mathlib.Numerals.{add-one}
 use borrow.Author.Tests.{ne-eqb, eq-eqb, le-leb, lt-leb, lt-ltb, le-ltb}
 use lib.Dec.{leb}
 use lib.ListN.{length, set, take, drop, length-append, length-drop}
-use lib.Seq.{set-split, take-take, length-take-le}
+use lib.Seq.{set-split, length-take-le}
 use Rattle.leaves.specs.Trim.{trimmed}
 use Rattle.leaves.specs.Paste.{pasted}
 use Rattle.leaves.proofs.PasteLaws.{pasted-more}
@@ -26,7 +26,7 @@ use Rattle.maps.specs.declared.Place.the-variants.{Block, Store}
 use Rattle.leaves.specs.declared.refusals.Refusal.the-variants.{StoreFull, FieldsFull}
 use Rattle.folds.specs.declared.Change.{Change}
 use Rattle.folds.specs.declared.Change.the-variants.{Nothing, Status as Headed, Put, Refused as Stops}
-use Rattle.folds.proofs.ListLaws.{pasted-none, drop-take}
+use Rattle.folds.proofs.ListLaws.{pasted-none}
 
 pub set-pasted : (s : List ℕ) (at x : ℕ) → at < length s → set s at x ≡ pasted s at (x ∷ [])
 unfolding pasted
@@ -52,11 +52,6 @@ grown-fits s room slot key from mark new k s′ r e h l p w =
 
 pub grow-twice : (s old t s₁ s₂ : List ℕ) (mark n : ℕ) → n ≡ length old → mark + n ≤ length s → s₁ ≡ pasted s mark old → s₂ ≡ pasted s₁ (mark + n) (32 ∷ t) → s₂ ≡ pasted s mark (old ++ 32 ∷ t)
 grow-twice s old t s₁ s₂ mark n e h p q = q ∙ rw (p, e) (pasted-more s old (32 ∷ t) mark (omega arith))
-
--- a part that ends before the mark
-pub part-cut : (s : List ℕ) (a e mark : ℕ) → a ≤ e → e ≤ mark → mark ≤ length s → part a e (take mark s) ≡ part a e s
-part-cut s a e mark h k l =
-    ap (take (e - a)) (drop-take s a mark (omega arith) l) ∙ take-take (e - a) (mark - a) (drop a s) (omega arith)
 
 pub part-long : (s : List ℕ) (a e : ℕ) → a ≤ e → e ≤ length s → length (part a e s) ≡ e - a
 part-long s a e h k = length-take-le (e - a) (drop a s) (omega (arith, length-drop a s))

@@ -1,18 +1,18 @@
 -- What is handed out, case by case. Assumes nothing.
 use mathlib.Core.Path.{_≡_, refl, sym, _∙_}
 use mathlib.Core.Bool.{Bool, true, false}
-use mathlib.Core.List.{List, [], _∷_}
+use mathlib.Core.List.{List, []}
 use mathlib.Core.Option.{Option, none, some}
-use Prim.Native.Nat.{ℕ, zero, suc, _≤_, _<_}
+use Prim.Native.Nat.{ℕ, _≤_, _<_}
 use native.Mathlib.Omega.{arith}
 use lib.Dec.{ltb}
 use borrow.Author.Tests.{lt-ltb, le-ltb, ltb-true, ltb-false}
-use lib.ListN.{length, getD, take}
+use lib.ListN.{getD}
 use lib.Seq.{getD-take}
 use Rattle.leaves.specs.Choice.{if-true, if-false}
 use Rattle.leaves.specs.declared.refusals.Refusal.{Refusal}
 use Rattle.maps.specs.Places.{noField, Within, Same, Parted}
-use Rattle.maps.specs.Good.{Fits, in-block, in-store, Fit, FitAll, fit-none, fit-more, FitStatus, fit-absent, fit-at, checkedDone}
+use Rattle.maps.specs.Good.{Fits, Fit, FitStatus, fit-absent, fit-at, checkedDone}
 use Rattle.maps.specs.declared.Field.{Field}
 use Rattle.maps.specs.declared.Place.{Place}
 use Rattle.maps.specs.declared.Status.{Status}
@@ -21,6 +21,7 @@ use Rattle.maps.specs.declared.Checked.{Checked}
 use Rattle.maps.specs.declared.Checked.the-variants.{Fine, Refused}
 use Rattle.maps.specs.declared.HeaderMap.{HeaderMap}
 use Rattle.maps.proofs.GoodLaws.{goes-on, refused-by, ready-of}
+use Rattle.maps.proofs.FitLaws.{fit-get, fits-within}
 use Rattle.maps.proofs.PartLaws.{within-begins}
 use Rattle.lookups.specs.declared.Slot.the-variants.{Nothing, At}
 use Rattle.lookups.specs.Lookups.{slotOf, shownStatus, Handed}
@@ -32,19 +33,6 @@ module _ (b s : List ℕ) (x y : ℕ × ℕ) (r : List ℕ) (z : ℕ × ℕ) whe
 
   pub hands-nothing : {q : Option Place} → q ≡ none → r ≡ [] → Same z x → Handed b s x y q r z
   hands-nothing e h l = rw e (record { is = h; lies = l })
-
--- a place that fits lies in what is lent
-fits-within : {c k : ℕ} {p : Place} (b s : List ℕ) → c ≤ length b → k ≤ length s → Fits c k p → Within b s p
-fits-within b s u v (in-block x y l h) = (l, omega arith)
-fits-within b s u v (in-store x y l h) = (l, omega arith)
-
-none-fits : (c k : ℕ) → Fit c k noField
-none-fits c k = record { key = in-block 0 0 (omega arith) (omega arith); value = in-block 0 0 (omega arith) (omega arith) }
-
-pub fit-get : (c k : ℕ) (xs : List Field) → FitAll c k xs → (i : ℕ) → Fit c k (getD xs i noField)
-fit-get c k [] fit-none i = none-fits c k
-fit-get c k (x ∷ xs) (fit-more f g) zero = f
-fit-get c k (x ∷ xs) (fit-more f g) (suc i) = fit-get c k xs g i
 
 module _ (m : HeaderMap) (b s : List ℕ) where
   within-of : Fine ≡ checkedDone m b s → {p : Place} → Fits (m .count) (m .mark) p → Within b s p
@@ -99,7 +87,7 @@ module _ (m : HeaderMap) (b s : List ℕ) where
             let l : i < m .fields = ltb-true _ _ u in
             let z : At (getD (m .table) i noField) ≡ At f = sym (slot-fine e l) ∙ h in
             let w : getD (m .table) i noField ≡ f = cc in
-            (rw (getD-take (m .fields) (m .table) i noField l, w) at (fit-get (m .count) (m .mark) (take (m .fields) (m .table)) (ready-of _ m b s e .fields) i))
+            (rw (getD-take (m .fields) (m .table) i noField l, w) at (fit-get (ready-of _ m b s e .fields) i))
         by false u = nothing-at f (sym (slot-wrong e (ltb-false _ _ u)) ∙ h)
 
     slot-by : (c : Checked) (f : Field) → c ≡ checkedDone m b s → slotOf m b s i ≡ At f → Within b s (f .key) × Within b s (f .value)

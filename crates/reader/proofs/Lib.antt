@@ -1,3 +1,4 @@
+pub mod RoomLaws
 pub mod FitLaws
 pub mod OctetSteps
 pub mod LineSteps

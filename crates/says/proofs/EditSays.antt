@@ -9,7 +9,7 @@ use Rattle.leaves.specs.Paste.{pasted}
 use Rattle.leaves.specs.Sanitise.{sanitised}
 use Rattle.leaves.specs.declared.refusals.Refusal.{Refusal}
 use Rattle.maps.specs.Places.{at}
-use Rattle.maps.specs.Good.{checkedDone, Fits, in-store, FitAll, fit-none, fit-more, fit-at}
+use Rattle.maps.specs.Good.{checkedDone, Fits, in-store, FitAll, fit-at}
 use Rattle.maps.specs.Maps.{Given}
 use Rattle.maps.specs.declared.Field.{Field}
 use Rattle.maps.specs.declared.Place.{Place}
@@ -20,7 +20,8 @@ use Rattle.maps.specs.Said.{saying}
 use Rattle.edits.specs.declared.Edit.the-variants.{Done, Refused}
 use Rattle.edits.specs.declared.Edited.{Edited}
 use Rattle.edits.specs.Edits.{withFields, refusing, setting, appending, removing, statusing}
-use Rattle.edits.proofs.FieldLaws.{status-up, all-up, joined-fit, keeps-fit, replaced-fit}
+use Rattle.maps.proofs.FitLaws.{status-mono, all-mono, all-snoc}
+use Rattle.edits.proofs.FieldLaws.{keeps-fit, replaced-fit}
 use Rattle.edits.proofs.OutcomeLaws.{Made, Outcome, left, made, made-of, left-of, setting-outcome, appending-outcome, removing-outcome, statusing-outcome}
 use Rattle.says.specs.Says.{setSaid, appendSaid, removeSaid, statusSaid, after, usable}
 use Rattle.says.proofs.KeptLaws.{place-kept}
@@ -52,7 +53,7 @@ module _ (m : HeaderMap) (b s : List ℕ) where
   fields-again {t} {g} xs mark edited d up h f =
       let w = ready-of _ m b s (d .fine) in
       made-usable d
-      (again m b s (d .fine) _ _ _ mark edited (d .few) h (status-up (m .count) (m .mark) mark up (w .status)) (rw (laid-live (m .table) xs) f) (pasted s (m .mark) t) (long d))
+      (again m b s (d .fine) _ _ _ mark edited (d .few) h (status-mono (omega arith) up (w .status)) (rw (laid-live (m .table) xs) f) (pasted s (m .mark) t) (long d))
 
   module _ (key value : List ℕ) where
     -- the law of set
@@ -66,7 +67,7 @@ module _ (m : HeaderMap) (b s : List ℕ) where
         let d = made-of (setting-outcome m b s key value) e in
         let w = ready-of _ m b s (d .fine) in
         let up : m .mark ≤ m .mark + length (sanitised true key ++ sanitised false value) = omega arith in
-        fields-again _ _ _ d up (d .fits) (replaced-fit _ _ _ _ (new-fits _ _ (sanitised true key) (sanitised false value)) _ (all-up (m .count) (m .mark) _ up (w .fields)))
+        fields-again _ _ _ d up (d .fits) (replaced-fit _ _ _ _ (new-fits _ _ (sanitised true key) (sanitised false value)) _ (all-mono (omega arith) up (w .fields)))
 
     pub set-stays : {p : Place} → Fits (m .count) (m .mark) p → at (setting m b s key value .block) (setting m b s key value .store) p ≡ at b s p
     set-stays f = octets-stay (setting-outcome m b s key value) f
@@ -85,7 +86,7 @@ module _ (m : HeaderMap) (b s : List ℕ) where
         let d = made-of (appending-outcome m b s key value) e in
         let w = ready-of _ m b s (d .fine) in
         let up : m .mark ≤ m .mark + length (sanitised true key ++ sanitised false value) = omega arith in
-        fields-again _ _ _ d up (d .fits) (joined-fit _ _ (all-up (m .count) (m .mark) _ up (w .fields)) (fit-more (new-fits _ _ (sanitised true key) (sanitised false value)) fit-none))
+        fields-again _ _ _ d up (d .fits) (all-snoc (all-mono (omega arith) up (w .fields)) (new-fits _ _ (sanitised true key) (sanitised false value)))
 
     pub append-stays : {p : Place} → Fits (m .count) (m .mark) p → at (appending m b s key value .block) (appending m b s key value .store) p ≡ at b s p
     append-stays f = octets-stay (appending-outcome m b s key value) f
@@ -125,7 +126,7 @@ module _ (m : HeaderMap) (b s : List ℕ) where
         let w = ready-of _ m b s (d .fine) in
         let up : m .mark ≤ m .mark + length (sanitised true text) = omega arith in
         made-usable d
-        (again m b s (d .fine) _ _ _ _ _ (d .few) (d .fits) (fit-at (in-store _ _ up (omega arith))) (all-up (m .count) (m .mark) _ up (w .fields)) (pasted s (m .mark) (sanitised true text)) (long d))
+        (again m b s (d .fine) _ _ _ _ _ (d .few) (d .fits) (fit-at (in-store _ _ up (omega arith))) (all-mono (omega arith) up (w .fields)) (pasted s (m .mark) (sanitised true text)) (long d))
 
     pub status-stays : {p : Place} → Fits (m .count) (m .mark) p → at (statusing m b s text .block) (statusing m b s text .store) p ≡ at b s p
     status-stays f = octets-stay (statusing-outcome m b s text) f
