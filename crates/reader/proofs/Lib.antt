@@ -1,3 +1,4 @@
+pub mod Steps
 pub mod RoomLaws
 pub mod FitLaws
 pub mod OctetSteps
