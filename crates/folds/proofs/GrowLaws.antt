@@ -14,7 +14,7 @@ use Rattle.leaves.specs.Paste.{pasted}
 use Rattle.leaves.proofs.PasteLaws.{pasted-more}
 use Rattle.leaves.specs.Choice.{if-true, if-false}
 use Rattle.folds.specs.Rule.{Ruling, plain, putField, grown, regrown, folded, split, rule4, continues, trimmedAt}
-use Rattle.maps.specs.Places.{part, inStore}
+use Rattle.maps.specs.Places.{part, inStore, readField}
 use Rattle.leaves.specs.Octets.{before}
 use Rattle.maps.specs.Good.{Fits, in-block, in-store}
 use Rattle.folds.specs.Asks.{Changes}
@@ -62,7 +62,7 @@ length-joined old t n e = omega (arith, length-append old (32 ∷ t))
 -- the three ends of a split
 module _ (n : ℕ) (l : List ℕ) (fields mark c : ℕ) (e : c ≡ before 58 l) where
   pub split-put : c < length l → fields < 256
-      → split n l fields mark ≡ plain (Put fields (record { key = trimmedAt n (take c l); value = trimmedAt (n + (c + 1)) (drop (c + 1) l) }) mark)
+      → split n l fields mark ≡ plain (Put fields (readField (trimmedAt n (take c l)) (trimmedAt (n + (c + 1)) (drop (c + 1) l))) mark)
   unfolding split
   split-put h k = if-true _ _ (rw (← e) (lt-ltb c (length l) h)) ∙ if-true _ _ (lt-ltb fields 256 k) ∙ rw e
 
