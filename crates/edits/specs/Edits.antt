@@ -9,7 +9,7 @@ use Rattle.leaves.specs.Paste.{lay, pasted}
 use Rattle.leaves.specs.Sanitise.{sanitised}
 use Rattle.leaves.specs.declared.refusals.Refusal.{Refusal}
 use Rattle.leaves.specs.Refusals.{refusal}
-use Rattle.maps.specs.Places.{inStore}
+use Rattle.maps.specs.Places.{inStore, editField}
 use Rattle.maps.specs.Good.{live, checkedDone, unless}
 use Rattle.maps.specs.Maps.{Given}
 use Rattle.maps.specs.declared.Field.{Field}
@@ -61,7 +61,7 @@ changing m b s n t =
 
 -- "Set and append put the new key, then the new value, at the mark": where they go
 abbrev pub newField : ℕ → ℕ → ℕ → Field
-newField n k v = record { key = inStore n (n + k); value = inStore (n + k) (n + k + v) }
+newField n k v = editField (inStore n (n + k)) (inStore (n + k) (n + k + v))
 
 -- an edit that makes the map n and puts the text t at the mark, after 3, 2 and 7
 abbrev pub editing : HeaderMap → List ℕ → List ℕ → HeaderMap → List ℕ → Given Edited

@@ -1,3 +1,4 @@
 pub mod OctetLaws
 pub mod PairLaws
 pub mod CompareLaws
+pub mod SaidEq

@@ -8,13 +8,13 @@ use native.Mathlib.Numerals.{add-one}
 use borrow.Author.Tests.{ne-eqb, eq-eqb, le-leb, lt-leb, lt-ltb, le-ltb}
 use lib.Dec.{leb}
 use lib.ListN.{length, set, take, drop, length-append, length-drop}
-use lib.Seq.{set-split, take-take, length-take-le}
+use lib.Seq.{set-split, length-take-le}
 use Rattle.leaves.specs.Trim.{trimmed}
 use Rattle.leaves.specs.Paste.{pasted}
 use Rattle.leaves.proofs.PasteLaws.{pasted-more}
 use Rattle.leaves.specs.Choice.{if-true, if-false}
 use Rattle.folds.specs.Rule.{Ruling, plain, putField, grown, regrown, folded, split, rule4, continues, trimmedAt}
-use Rattle.maps.specs.Places.{part, inStore}
+use Rattle.maps.specs.Places.{part, inStore, readField}
 use Rattle.leaves.specs.Octets.{before}
 use Rattle.maps.specs.Good.{Fits, in-block, in-store}
 use Rattle.folds.specs.Asks.{Changes}
@@ -26,7 +26,7 @@ use Rattle.maps.specs.declared.Place.the-variants.{Block, Store}
 use Rattle.leaves.specs.declared.refusals.Refusal.the-variants.{StoreFull, FieldsFull}
 use Rattle.folds.specs.declared.Change.{Change}
 use Rattle.folds.specs.declared.Change.the-variants.{Nothing, Status as Headed, Put, Refused as Stops}
-use Rattle.folds.proofs.ListLaws.{pasted-none, drop-take}
+use Rattle.folds.proofs.ListLaws.{pasted-none}
 
 pub set-pasted : (s : List ℕ) (at x : ℕ) → at < length s → set s at x ≡ pasted s at (x ∷ [])
 unfolding pasted
@@ -53,11 +53,6 @@ grown-fits s room slot key from mark new k s′ r e h l p w =
 pub grow-twice : (s old t s₁ s₂ : List ℕ) (mark n : ℕ) → n ≡ length old → mark + n ≤ length s → s₁ ≡ pasted s mark old → s₂ ≡ pasted s₁ (mark + n) (32 ∷ t) → s₂ ≡ pasted s mark (old ++ 32 ∷ t)
 grow-twice s old t s₁ s₂ mark n e h p q = q ∙ rw (p, e) (pasted-more s old (32 ∷ t) mark (omega arith))
 
--- a part that ends before the mark
-pub part-cut : (s : List ℕ) (a e mark : ℕ) → a ≤ e → e ≤ mark → mark ≤ length s → part a e (take mark s) ≡ part a e s
-part-cut s a e mark h k l =
-    ap (take (e - a)) (drop-take s a mark (omega arith) l) ∙ take-take (e - a) (mark - a) (drop a s) (omega arith)
-
 pub part-long : (s : List ℕ) (a e : ℕ) → a ≤ e → e ≤ length s → length (part a e s) ≡ e - a
 part-long s a e h k = length-take-le (e - a) (drop a s) (omega (arith, length-drop a s))
 
@@ -67,7 +62,7 @@ length-joined old t n e = omega (arith, length-append old (32 ∷ t))
 -- the three ends of a split
 module _ (n : ℕ) (l : List ℕ) (fields mark c : ℕ) (e : c ≡ before 58 l) where
   pub split-put : c < length l → fields < 256
-      → split n l fields mark ≡ plain (Put fields (record { key = trimmedAt n (take c l); value = trimmedAt (n + (c + 1)) (drop (c + 1) l) }) mark)
+      → split n l fields mark ≡ plain (Put fields (readField (trimmedAt n (take c l)) (trimmedAt (n + (c + 1)) (drop (c + 1) l))) mark)
   unfolding split
   split-put h k = if-true _ _ (rw (← e) (lt-ltb c (length l) h)) ∙ if-true _ _ (lt-ltb fields 256 k) ∙ rw e
 

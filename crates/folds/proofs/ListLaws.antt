@@ -5,7 +5,7 @@ use Prim.Native.Nat.{ℕ, _+_, _-_, _≤_}
 use native.Mathlib.Nat.{add-zero}
 use native.Mathlib.Omega.{arith}
 use lib.ListN.{length, take, drop, length-append, take-append-drop}
-use lib.Seq.{drop-drop, take-at, drop-at, take-add, length-take-le}
+use lib.Seq.{drop-drop, take-at, drop-at, length-take-le}
 use Rattle.leaves.specs.Paste.{pasted}
 
 module _ (d : List ℕ) (a : ℕ) (s : List ℕ) (h : a ≤ length d) where
@@ -27,12 +27,6 @@ module _ (d : List ℕ) (a : ℕ) (s : List ℕ) (h : a ≤ length d) where
 pub pasted-none : (d : List ℕ) (a : ℕ) → pasted d a [] ≡ d
 unfolding pasted
 pasted-none d a = rw add-zero (take-append-drop a d)
-
--- a line of a block that is cut at its count
-pub drop-take {ℓ} : {A : Type ℓ} (l : List A) (a e : ℕ) → a ≤ e → e ≤ length l → drop a (take e l) ≡ take (e - a) (drop a l)
-drop-take l a e h k =
-    let q : e ≡ a + (e - a) = omega arith in
-    ap (λ (n : ℕ). drop a (take n l)) q ∙ ap (drop a) (take-add a (e - a) l) ∙ drop-at (take a l) (take (e - a) (drop a l)) a (length-take-le a l (omega arith))
 
 -- what is kept past n
 pub drop-later {ℓ} : {A : Type ℓ} (l l₀ : List A) (n k : ℕ) → n ≤ k → drop n l ≡ drop n l₀ → drop k l ≡ drop k l₀

@@ -6,7 +6,7 @@ use lib.ListN.{length}
 use Rattle.leaves.specs.Paste.{pasted}
 use Rattle.folds.specs.Rule.{Ruling}
 use Rattle.maps.specs.Good.{Fits}
-use Rattle.maps.specs.Places.{inBlock}
+use Rattle.maps.specs.Places.{inBlock, readField}
 use Rattle.maps.specs.declared.Field.{Field}
 use Rattle.folds.specs.declared.Change.{Change}
 use Rattle.folds.specs.declared.Change.the-variants.{Put}
@@ -38,4 +38,4 @@ pub record Folding (block store text : List ℕ) (last : Field) (fields room mar
 
 -- the field of a line of k octets at n in the block: c octets, a colon, a space, the value, CR and LF
 abbrev pub putTight : ℕ → ℕ → ℕ → ℕ → ℕ → Change
-putTight n c k fields mark = Put fields (record { key = inBlock n (n + c); value = inBlock (n + (c + 2)) (n + (k - 2)) }) mark
+putTight n c k fields mark = Put fields (readField (inBlock n (n + c)) (inBlock (n + (c + 2)) (n + (k - 2)))) mark

@@ -9,7 +9,7 @@ use Rattle.leaves.specs.Class.{blank}
 use Rattle.leaves.specs.Trim.{trimEnd, trimStart, trimmed}
 use Rattle.leaves.specs.Octets.{before, all, sameList}
 use Rattle.leaves.specs.Refusals.{refusal}
-use Rattle.maps.specs.Places.{inBlock, inStore, part}
+use Rattle.maps.specs.Places.{inBlock, inStore, part, readField}
 use Rattle.maps.specs.declared.Field.{Field}
 use Rattle.maps.specs.declared.Place.{Place}
 use Rattle.maps.specs.declared.Place.the-variants.{Block, Store}
@@ -40,7 +40,7 @@ plain c = record { change = c; new = [] }
 
 -- a field in a slot whose value lies in the store and ends at the new mark
 abbrev pub putField : ℕ → Place → ℕ → ℕ → Change
-putField slot key from to = Put slot (record { key = key; value = inStore from to }) to
+putField slot key from to = Put slot (readField key (inStore from to)) to
 
 -- new octets at the mark, if they fit, that end the value of the field in a slot; "mark plus new octets exceed the room" is 6
 unfoldable pub grown : ℕ → ℕ → Place → ℕ → ℕ → List ℕ → Ruling
@@ -69,7 +69,7 @@ split n l fields mark =
     if ltb (before 58 l) (length l)
     then (
     if ltb fields 256
-    then plain (Put fields (record { key = trimmedAt n (take (before 58 l) l); value = trimmedAt (n + (before 58 l + 1)) (drop (before 58 l + 1) l) }) mark)
+    then plain (Put fields (readField (trimmedAt n (take (before 58 l) l)) (trimmedAt (n + (before 58 l + 1)) (drop (before 58 l + 1) l))) mark)
     else plain (Stops (refusal 5)))
     else plain Nothing
 

@@ -1,7 +1,7 @@
 -- Laws of names compared without case. Assumes nothing.
 use mathlib.Core.Path.{_≡_, refl, ap}
 use mathlib.Core.Bool.{true, false, false≢true}
-use mathlib.Core.List.{List, [], _∷_}
+use mathlib.Core.List.{List, [], _∷_, map}
 use Prim.Native.Nat.{ℕ, suc, _+_, _-_, _≤_, _<_}
 use native.Mathlib.Numerals.{add-one}
 use borrow.Author.Tests.{eq-eqb, ne-eqb, eqb-true}
@@ -27,6 +27,16 @@ same-list-eq (x ∷ xs) (y ∷ ys) e =
     let p : x ≡ y = eqb-true x y (and-left (eqb x y) (sameList xs ys) e) in
     let q : xs ≡ ys = same-list-eq xs ys (and-right (eqb x y) (sameList xs ys) e) in
     rw (p, q)
+
+-- names that are the same: each is the same as itself, the other way round, and as what the other is
+pub name-refl : (a : List ℕ) → sameName a a ≡ true
+name-refl a = same-list-refl (map lowered a)
+
+pub name-sym : (a b : List ℕ) → sameName a b ≡ true → sameName b a ≡ true
+name-sym a b e = rw (same-list-eq (map lowered a) (map lowered b) e) (same-list-refl (map lowered b))
+
+pub name-trans : (a b c : List ℕ) → sameName a b ≡ true → sameName b c ≡ true → sameName a c ≡ true
+name-trans a b c e f = rw (same-list-eq (map lowered a) (map lowered b) e) f
 
 -- texts of different lengths are not the same
 pub apart : (a b : List ℕ) → (length a ≡ length b → ⊥) → sameList a b ≡ false

@@ -1,16 +1,23 @@
 -- Laws of a part `&s[a..e]`, of text written over one, and of the loop that copies. Assumes nothing.
 use mathlib.Core.Path.{_≡_, refl, sym, ap, _∙_}
-use mathlib.Core.List.{List, _++_, append-assoc, append-nil}
+use mathlib.Core.List.{List, [], _∷_, _++_, append-assoc, append-nil}
 use mathlib.Core.Bool.{Bool, true, false}
-use Prim.Native.Nat.{ℕ, max, _+_, _-_, _≤_, _<_}
+use Prim.Native.Nat.{ℕ, zero, suc, max, _+_, _-_, _≤_, _<_}
 use native.Mathlib.Nat.{zero-add}
 use native.Mathlib.Omega.{arith}
 use native.Mathlib.Numerals.{add-one}
 use borrow.Author.Tests.{leb-true, leb-false}
 use lib.Dec.{leb}
 use lib.ListN.{length, getD, set, take, drop, length-append, length-drop, length-take, take-append-drop, drop-of-length-le}
-use lib.Seq.{paste, paste-zero, paste-suc, length-paste, take-paste, drop-paste, take-length, take-take, take-add, drop-drop, take-all, drop-append-le, drop-append-add, take-at, length-take-le, getD-take, getD-drop}
+use lib.Seq.{paste, paste-zero, paste-suc, length-paste, take-paste, drop-paste, take-length, take-nil, take-take, take-add, drop-drop, take-all, drop-append-le, drop-append-add, take-at, length-take-le, getD-take, getD-drop}
 use Rattle.leaves.specs.Paste.{pasted, lay}
+
+-- a part of the first n
+pub drop-take {ℓ} : {A : Type ℓ} (i n : ℕ) (l : List A) → drop i (take n l) ≡ take (n - i) (drop i l)
+drop-take zero n l = let z : n - zero ≡ n = omega arith in rw z
+drop-take (suc i) zero l = let z : zero - suc i ≡ zero = omega arith in rw z
+drop-take (suc i) (suc n) [] = sym (take-nil (suc n - suc i))
+drop-take (suc i) (suc n) (x ∷ xs) = let z : suc n - suc i ≡ n - i = omega arith in rw z (drop-take i n xs)
 
 -- the part to the end is what is left
 pub tail-all : (xs : List ℕ) (a : ℕ) → take (length xs - a) (drop a xs) ≡ drop a xs
@@ -112,6 +119,11 @@ module _ {d₀ s d : List ℕ} {i : ℕ} (c : Copying d₀ 0 s d i) (at n : ℕ)
           let k : at + n ≤ i = omega (arith, leb-false i (at + n) h) in
           let m : max i (at + n) ≡ i = omega arith in
           rw (m, copy-again k) c
+
+-- what stands before it stays
+pub pasted-before : (d : List ℕ) (a : ℕ) (s : List ℕ) → a ≤ length d → take a (pasted d a s) ≡ take a d
+unfolding pasted
+pasted-before d a s h = take-at (take a d) (s ++ drop (a + length s) d) a (length-take-le a d h)
 
 -- a text as long as the list takes its place
 pub pasted-over : (d s : List ℕ) → length d ≤ length s → pasted d 0 s ≡ s

@@ -1,18 +1,18 @@
 -- What is handed out, case by case. Assumes nothing.
 use mathlib.Core.Path.{_≡_, refl, sym, _∙_}
 use mathlib.Core.Bool.{Bool, true, false}
-use mathlib.Core.List.{List, [], _∷_}
+use mathlib.Core.List.{List, []}
 use mathlib.Core.Option.{Option, none, some}
-use Prim.Native.Nat.{ℕ, zero, suc, _≤_, _<_}
+use Prim.Native.Nat.{ℕ, _≤_, _<_}
 use native.Mathlib.Omega.{arith}
 use lib.Dec.{ltb}
 use borrow.Author.Tests.{lt-ltb, le-ltb, ltb-true, ltb-false}
-use lib.ListN.{length, getD, take}
+use lib.ListN.{getD}
 use lib.Seq.{getD-take}
-use Rattle.leaves.specs.Choice.{if-true, if-false}
+use Rattle.leaves.specs.Choice.{if-true, if-false, clash}
 use Rattle.leaves.specs.declared.refusals.Refusal.{Refusal}
 use Rattle.maps.specs.Places.{noField, Within, Same, Parted}
-use Rattle.maps.specs.Good.{Fits, in-block, in-store, Fit, FitAll, fit-none, fit-more, FitStatus, fit-absent, fit-at, checkedDone}
+use Rattle.maps.specs.Good.{Fits, Fit, FitStatus, fit-absent, fit-at, checkedDone}
 use Rattle.maps.specs.declared.Field.{Field}
 use Rattle.maps.specs.declared.Place.{Place}
 use Rattle.maps.specs.declared.Status.{Status}
@@ -22,6 +22,7 @@ use Rattle.maps.specs.declared.Checked.the-variants.{Fine, Refused}
 use Rattle.maps.specs.declared.HeaderMap.{HeaderMap}
 use Rattle.maps.proofs.GoodLaws.{goes-on, refused-by, ready-of}
 use Rattle.maps.specs.Said.{statusAt, textOf, saying}
+use Rattle.maps.proofs.FitLaws.{fit-get, fits-within}
 use Rattle.maps.proofs.PartLaws.{within-begins}
 use Rattle.maps.proofs.SaidLaws.{said-is}
 use Rattle.lookups.specs.declared.Slot.the-variants.{Nothing, At}
@@ -34,19 +35,6 @@ module _ (b s : List ℕ) (x y : ℕ × ℕ) (r : List ℕ) (z : ℕ × ℕ) whe
 
   pub hands-nothing : {q : Option Place} → q ≡ none → r ≡ [] → Same z x → Handed b s x y q r z
   hands-nothing e h l = rw e (record { is = h; lies = l })
-
--- a place that fits lies in what is lent
-fits-within : {c k : ℕ} {p : Place} (b s : List ℕ) → c ≤ length b → k ≤ length s → Fits c k p → Within b s p
-fits-within b s u v (in-block x y l h) = (l, omega arith)
-fits-within b s u v (in-store x y l h) = (l, omega arith)
-
-none-fits : (c k : ℕ) → Fit c k noField
-none-fits c k = record { key = in-block 0 0 (omega arith) (omega arith); value = in-block 0 0 (omega arith) (omega arith) }
-
-pub fit-get : (c k : ℕ) (xs : List Field) → FitAll c k xs → (i : ℕ) → Fit c k (getD xs i noField)
-fit-get c k [] fit-none i = none-fits c k
-fit-get c k (x ∷ xs) (fit-more f g) zero = f
-fit-get c k (x ∷ xs) (fit-more f g) (suc i) = fit-get c k xs g i
 
 module _ (m : HeaderMap) (b s : List ℕ) where
   within-of : Fine ≡ checkedDone m b s → {p : Place} → Fits (m .count) (m .mark) p → Within b s p
@@ -62,16 +50,13 @@ module _ (m : HeaderMap) (b s : List ℕ) where
   unfolding shownStatus
   status-refused x e = refused-by _ _ _ x e
 
-  absent-stands : {A : Type 0} (p : Place) → Absent ≡ Stands p → A
-  absent-stands p e = let z : _≡_ {A = ℕ} 0 1 = cc in absurd (omega arith)
-
   fit-status : (t : Status) (p : Place) → FitStatus (m .count) (m .mark) t → t ≡ Stands p → Fits (m .count) (m .mark) p
-  fit-status Absent p fit-absent e = absent-stands p e
+  fit-status Absent p fit-absent e = clash (cc)
   fit-status (Stands q) p (fit-at f) e = let z : q ≡ p = cc in rw z at f
 
   status-by : (c : Checked) (p : Place) → c ≡ checkedDone m b s → shownStatus m b s ≡ Stands p → Within b s p
   status-by Fine p e h = within-of e (fit-status (m .status) p (ready-of _ m b s e .status) (sym (status-fine e) ∙ h))
-  status-by (Refused x) p e h = absent-stands p (sym (status-refused x e) ∙ h)
+  status-by (Refused x) p e h = clash (cc (status-refused x e))
 
   -- a status that is handed out lies in its loan
   pub status-within : (p : Place) → shownStatus m b s ≡ Stands p → Within b s p
@@ -90,9 +75,6 @@ module _ (m : HeaderMap) (b s : List ℕ) where
     unfolding slotOf
     slot-refused x e = refused-by _ _ _ x e
 
-    nothing-at : {A : Type 0} (f : Field) → Nothing ≡ At f → A
-    nothing-at f e = let z : _≡_ {A = ℕ} 0 1 = cc in absurd (omega arith)
-
     fit-slot : Fine ≡ checkedDone m b s → (f : Field) → slotOf m b s i ≡ At f → Fit (m .count) (m .mark) f
     fit-slot e f h = by (ltb i (m .fields)) refl
       where
@@ -101,12 +83,12 @@ module _ (m : HeaderMap) (b s : List ℕ) where
             let l : i < m .fields = ltb-true _ _ u in
             let z : At (getD (m .table) i noField) ≡ At f = sym (slot-fine e l) ∙ h in
             let w : getD (m .table) i noField ≡ f = cc in
-            (rw (getD-take (m .fields) (m .table) i noField l, w) at (fit-get (m .count) (m .mark) (take (m .fields) (m .table)) (ready-of _ m b s e .fields) i))
-        by false u = nothing-at f (sym (slot-wrong e (ltb-false _ _ u)) ∙ h)
+            (rw (getD-take (m .fields) (m .table) i noField l, w) at (fit-get (ready-of _ m b s e .fields) i))
+        by false u = clash (cc (slot-wrong e (ltb-false _ _ u)))
 
     slot-by : (c : Checked) (f : Field) → c ≡ checkedDone m b s → slotOf m b s i ≡ At f → Within b s (f .key) × Within b s (f .value)
     slot-by Fine f e h = let w = fit-slot e f h in (within-of e (w .key), within-of e (w .value))
-    slot-by (Refused x) f e h = nothing-at f (sym (slot-refused x e) ∙ h)
+    slot-by (Refused x) f e h = clash (cc (slot-refused x e))
 
     -- a field that is handed out has its places in their loans
     pub slot-within : (f : Field) → slotOf m b s i ≡ At f → Within b s (f .key) × Within b s (f .value)

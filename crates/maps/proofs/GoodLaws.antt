@@ -1,23 +1,20 @@
 -- The tests of a map, as facts. Assumes nothing.
 use mathlib.Core.Path.{_≡_, refl, sym}
 use mathlib.Core.Bool.{Bool, true, false, _&&_, false≢true}
-use mathlib.Core.List.{List, [], _∷_}
-use Prim.Native.Nat.{ℕ, suc, _-_, _≤_, _<_}
+use mathlib.Core.List.{List, []}
+use Prim.Native.Nat.{ℕ, suc, _≤_, _<_}
 use native.Mathlib.Omega.{arith}
 use borrow.Author.Tests.{leb-true, le-leb, lt-leb}
 use lib.Dec.{leb}
 use lib.ListN.{length, getD, take, drop, length-take, drop-of-length-le}
 use lib.Seq.{drop-cons, getD-take}
-use Rattle.leaves.specs.Choice.{and-left, and-right}
-use Rattle.maps.specs.Good.{Fits, in-block, in-store, FitAll, fit-none, fit-more, FitStatus, fit-absent, fit-at}
-use Rattle.maps.specs.Good.{goodPlace, goodStatus, goodField, goodFields, goodRooms, goodCounts, good, lent, firstOf, checked, checkedReading, checkedDone, unless, isReading, isDone, Ready}
+use Rattle.leaves.specs.Choice.{and-left, and-right, clash}
+use Rattle.maps.proofs.GoodBy.{good-facts}
+use Rattle.maps.specs.Good.{goodPlace, goodField, goodFields, good, lent, firstOf, checked, checkedReading, checkedDone, unless, isReading, isDone, Ready}
 use Rattle.maps.specs.declared.BlockOffset.{BlockOffset}
 use Rattle.maps.specs.declared.StoreOffset.{StoreOffset}
 use Rattle.maps.specs.declared.Field.{Field}
-use Rattle.maps.specs.declared.Place.{Place}
 use Rattle.maps.specs.declared.Place.the-variants.{Block, Store}
-use Rattle.maps.specs.declared.Status.{Status}
-use Rattle.maps.specs.declared.Status.the-variants.{Absent, At}
 use Rattle.maps.specs.declared.Phase.{Phase}
 use Rattle.maps.specs.declared.Phase.the-variants.{Reading, Done}
 use Rattle.leaves.specs.declared.refusals.Refusal.{Refusal}
@@ -68,36 +65,9 @@ module _ (count mark : ℕ) where
       let l : length (take n t) ≤ i = omega (arith, length-take n t) in
       rw (drop-of-length-le (take n t) l)
 
-  place-fits : (p : Place) → goodPlace count mark p ≡ true → Fits count mark p
-  place-fits (Block a b) e = in-block (a .0) (b .0) (leb-true _ _ (and-left (leb (a .0) (b .0)) (leb (b .0) count) e)) (leb-true _ _ (and-right (leb (a .0) (b .0)) (leb (b .0) count) e))
-  place-fits (Store a b) e = in-store (a .0) (b .0) (leb-true _ _ (and-left (leb (a .0) (b .0)) (leb (b .0) mark) e)) (leb-true _ _ (and-right (leb (a .0) (b .0)) (leb (b .0) mark) e))
-
-  status-fits : (s : Status) → goodStatus count mark s ≡ true → FitStatus count mark s
-  status-fits Absent e = fit-absent
-  status-fits (At p) e = fit-at (place-fits p e)
-
-  fields-fit : (xs : List Field) → goodFields count mark xs ≡ true → FitAll count mark xs
-  unfolding goodFields
-  fields-fit [] e = fit-none
-  fields-fit (x ∷ xs) e =
-      let f = and-left (goodField count mark x) (goodFields count mark xs) e in
-      fit-more
-      (record {
-        key = place-fits (x .key) (and-left (goodPlace count mark (x .key)) (goodPlace count mark (x .value)) f);
-        value = place-fits (x .value) (and-right (goodPlace count mark (x .key)) (goodPlace count mark (x .value)) f);
-      })
-      (fields-fit xs (and-right (goodField count mark x) (goodFields count mark xs) e))
-
 pub no-fields : (count mark : ℕ) → goodFields count mark [] ≡ true
 unfolding goodFields
 no-fields count mark = refl
-
-pub counts-few : (limit room count mark line fields : ℕ) → goodCounts limit room count mark line fields ≡ true → fields ≤ 256
-counts-few limit room count mark line fields e =
-    leb-true fields 256
-    (and-right (leb line count) (leb fields 256)
-    (and-right (leb mark room) (leb line count && leb fields 256)
-    (and-right (leb count limit) (leb mark room && (leb line count && leb fields 256)) e)))
 
 -- what the first checks say
 module _ (ready : Bool) (m : HeaderMap) (b s : ℕ) where
@@ -129,12 +99,12 @@ abbrev Passes : Bool → Bool → Bool → Type 0
 Passes g l r = (g ≡ true) × (l ≡ true) × (r ≡ true)
 
 pub not-refused : {A : Type 0} (x : Refusal) → Fine ≡ Refused x → A
-not-refused x p = let z : _≡_ {A = ℕ} 0 1 = cc in absurd (omega arith)
+not-refused x p = clash (cc)
 
 passes : (g l r : Bool) → Fine ≡ firstOf g l r → Passes g l r
-passes false l r e = not-refused BadMap e
-passes true false r e = not-refused ShortLoan e
-passes true true false e = not-refused WrongPhase e
+passes false l r e = clash (cc)
+passes true false r e = clash (cc)
+passes true true false e = clash (cc)
 passes true true true e = (refl, refl, refl)
 
 pub checked-passes : (ready : Bool) (m : HeaderMap) (b s : ℕ) → Fine ≡ checked ready m b s → Passes (good m) (lent m b s) ready
@@ -157,32 +127,20 @@ is-done m b s e = phase-done (m .phase) (checked-passes _ m _ _ e .2)
 
 -- so the map is ready
 pub ready-of : (ready : Bool) (m : HeaderMap) (b s : List ℕ) → Fine ≡ checked ready m (length b) (length s) → Ready m b s
-unfolding good
 ready-of ready m b s e =
     let p = checked-passes ready m (length b) (length s) e in
-    let g = p .0 in
-    let l = p .1 in
-    let c = goodCounts (m .limit) (m .room) (m .count) (m .mark) (m .line) (m .fields) in
-    let st = goodStatus (m .count) (m .mark) (m .status) in
-    let fs = goodFields (m .count) (m .mark) (take (m .fields) (m .table)) in
-    let r₁ = and-left (goodRooms (m .limit) (m .room)) (c && (st && fs)) g in
-    let r₂ = and-right (goodRooms (m .limit) (m .room)) (c && (st && fs)) g in
-    let c₁ = and-left c (st && fs) r₂ in
-    let d₁ = and-right c (st && fs) r₂ in
-    let q₁ = and-right (leb (m .limit) 65536) (leb (m .limit) (m .room) && leb (m .room) 65536) r₁ in
-    let c₂ = and-right (leb (m .count) (m .limit)) (leb (m .mark) (m .room) && (leb (m .line) (m .count) && leb (m .fields) 256)) c₁ in
-    let c₃ = and-right (leb (m .mark) (m .room)) (leb (m .line) (m .count) && leb (m .fields) 256) c₂ in
+    let f = good-facts m (p .0) in
     record {
-      isGood = g;
-      small = leb-true _ _ (and-left (leb (m .limit) 65536) (leb (m .limit) (m .room) && leb (m .room) 65536) r₁);
-      least = leb-true _ _ (and-left (leb (m .limit) (m .room)) (leb (m .room) 65536) q₁);
-      most = leb-true _ _ (and-right (leb (m .limit) (m .room)) (leb (m .room) 65536) q₁);
-      count = leb-true _ _ (and-left (leb (m .count) (m .limit)) (leb (m .mark) (m .room) && (leb (m .line) (m .count) && leb (m .fields) 256)) c₁);
-      mark = leb-true _ _ (and-left (leb (m .mark) (m .room)) (leb (m .line) (m .count) && leb (m .fields) 256) c₂);
-      line = leb-true _ _ (and-left (leb (m .line) (m .count)) (leb (m .fields) 256) c₃);
-      few = leb-true _ _ (and-right (leb (m .line) (m .count)) (leb (m .fields) 256) c₃);
-      block = leb-true _ _ (and-left (leb (m .limit) (length b)) (leb (m .room) (length s)) l);
-      store = leb-true _ _ (and-right (leb (m .limit) (length b)) (leb (m .room) (length s)) l);
-      status = status-fits (m .count) (m .mark) (m .status) (and-left st fs d₁);
-      fields = fields-fit (m .count) (m .mark) (take (m .fields) (m .table)) (and-right st fs d₁);
+      isGood = p .0;
+      small = f .small;
+      least = f .least;
+      most = f .most;
+      count = f .count;
+      mark = f .mark;
+      line = f .line;
+      few = f .few;
+      block = leb-true _ _ (and-left (leb (m .limit) (length b)) (leb (m .room) (length s)) (p .1));
+      store = leb-true _ _ (and-right (leb (m .limit) (length b)) (leb (m .room) (length s)) (p .1));
+      status = f .status;
+      fields = f .fields;
     }

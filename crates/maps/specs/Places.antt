@@ -61,6 +61,15 @@ pub record Parted (b s : List ℕ) (x y : ℕ × ℕ) (p : Place) (r : List ℕ)
   pub small : length r ≤ 4294967295
   pub lies : Same z (partAt b s x y p)
 
+-- "A field has a key place and a value place.": one that lines gave
+abbrev pub readField : Place → Place → Field
+readField key value = record { key = key; value = value }
+
+-- one that an edit made
+abbrev pub editField : Place → Place → Field
+editField key value = record { key = key; value = value }
+
+-- what stands in an entry that was never used
 abbrev pub noField : Field
 noField = record { key = inBlock 0 0; value = inBlock 0 0 }
 

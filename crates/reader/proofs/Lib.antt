@@ -1,3 +1,5 @@
+pub mod Steps
+pub mod RoomLaws
 pub mod FitLaws
 pub mod OctetSteps
 pub mod LineSteps

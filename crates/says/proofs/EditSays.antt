@@ -9,7 +9,7 @@ use Rattle.leaves.specs.Paste.{pasted}
 use Rattle.leaves.specs.Sanitise.{sanitised}
 use Rattle.leaves.specs.declared.refusals.Refusal.{Refusal}
 use Rattle.maps.specs.Places.{at}
-use Rattle.maps.specs.Good.{live, checkedDone, Fits, in-store, FitAll, fit-none, fit-more, fit-at}
+use Rattle.maps.specs.Good.{live, checkedDone, Fits, in-store, FitAll, fit-at}
 use Rattle.maps.specs.Maps.{Given}
 use Rattle.maps.specs.declared.Field.{Field}
 use Rattle.maps.specs.declared.Place.{Place}
@@ -22,7 +22,8 @@ use Rattle.edits.specs.declared.Edit.the-variants.{Done, Refused}
 use Rattle.edits.specs.declared.Edited.{Edited}
 use Rattle.edits.specs.Fields.{replaced}
 use Rattle.edits.specs.Edits.{withFields, withStatus, refusing, filled, leaving, thinned}
-use Rattle.edits.proofs.FieldLaws.{status-up, all-up, joined-fit, keeps-fit, replaced-fit}
+use Rattle.maps.proofs.FitLaws.{status-mono, all-mono, all-snoc}
+use Rattle.edits.proofs.FieldLaws.{keeps-fit, replaced-fit}
 use Rattle.edits.proofs.OutcomeLaws.{Made, Outcome, left, made, made-of, left-of, setting-outcome, appending-outcome, removing-outcome, statusing-outcome}
 use Rattle.says.specs.Says.{Ask, ask-set, ask-append, ask-remove, ask-status, asked, askSaid, after, usable}
 use Rattle.says.proofs.KeptLaws.{place-kept}
@@ -54,7 +55,7 @@ module _ (m : HeaderMap) (b s : List ℕ) where
   fields-again {t} {g} xs mark edited d up h f =
       let w = ready-of _ m b s (d .fine) in
       made-usable d
-      (again m b s (d .fine) _ _ _ mark edited (d .few) h (status-up (m .count) (m .mark) mark up (w .status)) (rw (laid-live (m .table) xs) f) (pasted s (m .mark) t) (long d))
+      (again m b s (d .fine) _ _ _ mark edited (d .few) h (status-mono (omega arith) up (w .status)) (rw (laid-live (m .table) xs) f) (pasted s (m .mark) t) (long d))
 
 -- the map that an edit makes, and the text that it puts at the mark
 abbrev madeBy : Ask → HeaderMap → List ℕ → List ℕ → HeaderMap
@@ -94,11 +95,11 @@ module _ (m : HeaderMap) (b s : List ℕ) where
   again-by (ask-set k v) d =
       let w = ready-of _ m b s (d .fine) in
       let up : m .mark ≤ m .mark + length (textBy (ask-set k v)) = omega arith in
-      fields-again m b s _ _ _ d up (d .fits) (replaced-fit _ _ _ _ (new-fits _ _ (sanitised true k) (sanitised false v)) _ (all-up (m .count) (m .mark) _ up (w .fields)))
+      fields-again m b s _ _ _ d up (d .fits) (replaced-fit _ _ _ _ (new-fits _ _ (sanitised true k) (sanitised false v)) _ (all-mono (omega arith) up (w .fields)))
   again-by (ask-append k v) d =
       let w = ready-of _ m b s (d .fine) in
       let up : m .mark ≤ m .mark + length (textBy (ask-append k v)) = omega arith in
-      fields-again m b s _ _ _ d up (d .fits) (joined-fit _ _ (all-up (m .count) (m .mark) _ up (w .fields)) (fit-more (new-fits _ _ (sanitised true k) (sanitised false v)) fit-none))
+      fields-again m b s _ _ _ d up (d .fits) (all-snoc (all-mono (omega arith) up (w .fields)) (new-fits _ _ (sanitised true k) (sanitised false v)))
   again-by (ask-remove k) d =
       let w = ready-of _ m b s (d .fine) in
       fields-again m b s _ _ _ d (omega arith) (w .mark) (keeps-fit _ _ _ _ (w .fields))
@@ -106,7 +107,7 @@ module _ (m : HeaderMap) (b s : List ℕ) where
       let w = ready-of _ m b s (d .fine) in
       let up : m .mark ≤ m .mark + length (sanitised true t) = omega arith in
       made-usable d
-      (again m b s (d .fine) _ _ _ _ _ (d .few) (d .fits) (fit-at (in-store _ _ up (omega arith))) (all-up (m .count) (m .mark) _ up (w .fields)) (pasted s (m .mark) (sanitised true t)) (long d))
+      (again m b s (d .fine) _ _ _ _ _ (d .few) (d .fits) (fit-at (in-store _ _ up (omega arith))) (all-mono (omega arith) up (w .fields)) (pasted s (m .mark) (sanitised true t)) (long d))
 
   pub ask-again : (a : Ask) → asked a m b s .result .answer ≡ Done → Fine ≡ usable (asked a m b s)
   ask-again a e = again-by a (ask-made a e)

@@ -7,7 +7,8 @@ use mathlib.Core.Path.{sym}
 use mathlib.Core.List.{_∷_, _++_}
 use Prim.Native.Nat.{_+_, _-_, _≤_}
 use lib.ListN.{length}
-use Rattle.folds.proofs.GrowLaws.{grown-full, grown-fits, grow-twice, part-cut, length-joined}
+use Rattle.folds.proofs.GrowLaws.{grown-full, grown-fits, grow-twice, length-joined}
+use Rattle.maps.proofs.TextLaws.{part-cut}
 use Rattle.folds.proofs.grow_again.Statement.{statement}
 use Rattle.folds.proofs.grow_again.Tie as tie
 
@@ -29,7 +30,7 @@ returns c =
     let a = s .args in
     let t = a .store .now in
     let l : a .mark ≤ length t = omega (arith, s .pre .0 .marked, s .pre .0 .long) in
-    let q = part-cut t (a .from) (a .«end») (a .mark) (s .pre .1) (s .pre .2) l in
+    let q = part-cut t (a .from) (a .«end») (a .mark) (s .pre .2) in
     let z = part-long t (a .from) (a .«end») (s .pre .1) (omega arith) in
     rw q (grown-full _ _ _ _ _ _ (part (a .from) (a .«end») t ++ (32 ∷ a .text .now)) _ (length-joined (part (a .from) (a .«end») t) (a .text .now) _ (sym z)) (s .pre .0 .marked) (c .if1 .taken))
 
@@ -59,7 +60,7 @@ returns-2 c =
     let a = s .args in
     let t = a .store .now in
     let l : a .mark ≤ length t = omega (arith, s .pre .0 .marked, s .pre .0 .long) in
-    let q = part-cut t (a .from) (a .«end») (a .mark) (s .pre .1) (s .pre .2) l in
+    let q = part-cut t (a .from) (a .«end») (a .mark) (s .pre .2) in
     let z = part-long t (a .from) (a .«end») (s .pre .1) (omega arith) in
     rw q (grown-fits _ _ _ _ _ _ (part (a .from) (a .«end») t ++ (32 ∷ a .text .now)) _ _ _ (length-joined (part (a .from) (a .«end») t) (a .text .now) _ (sym z)) (s .pre .0 .marked) (omega arith) (c .put-field .ensures)
     (grow-twice t (part (a .from) (a .«end») t) (a .text .now) _ _ _ _ (sym z) (omega arith) (k .copy-within .ensures) (d .put-tail .ensures)))

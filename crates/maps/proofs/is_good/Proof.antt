@@ -4,7 +4,8 @@ use Prim.Native.Nat.{ℕ}
 use lib.ListN.{take}
 use mathlib.Core.Path.{sym, ap, _∙_}
 use Prim.Native.Nat.{_-_}
-use Rattle.maps.proofs.GoodLaws.{no-fields, and-go, and-stop, counts-few}
+use Rattle.maps.proofs.GoodBy.{counts-few}
+use Rattle.maps.proofs.GoodLaws.{no-fields, and-go, and-stop}
 use Rattle.maps.specs.Good.{good, goodFields}
 use Rattle.maps.proofs.is_good.Statement.{statement}
 use Rattle.maps.proofs.is_good.Tie as tie
