@@ -1,3 +1,4 @@
 pub mod PartLaws
 pub mod GoodLaws
 pub mod SaidLaws
+pub mod FrontLaws
