@@ -5,3 +5,4 @@ pub mod HeardLaws
 pub mod RuleHeard
 pub mod ListeningLaws
 pub mod MapSays
+pub mod Begun
