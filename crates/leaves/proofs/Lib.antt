@@ -8,3 +8,4 @@ pub mod SearchLaws
 pub mod PasteLaws
 pub mod RefusalLaws
 pub mod LayLaws
+pub mod TrimTexts

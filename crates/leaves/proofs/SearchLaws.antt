@@ -130,3 +130,15 @@ module _ (p : ℕ → Bool) (s : List ℕ) (i : ℕ) where
   pub all-end : length s ≤ i → all p (drop i s) ≡ true
   unfolding all
   all-end h = rw (drop-of-length-le s h)
+
+-- an octet that neither of two texts has
+pub has-append : (c : ℕ) (a b : List ℕ) → has c a ≡ false → has c b ≡ false → has c (a ++ b) ≡ false
+unfolding has
+has-append c [] b e f = f
+has-append c (x ∷ xs) b e f = rw (or-left (eqb x c) (has c xs) e) (has-append c xs b (or-right (eqb x c) (has c xs) e) f)
+
+-- one that stands behind a text without it
+pub before-append : (c : ℕ) (a b : List ℕ) → has c a ≡ false → before c (a ++ c ∷ b) ≡ length a
+unfolding has before
+before-append c [] b e = rw (eq-eqb c c refl)
+before-append c (x ∷ xs) b e = rw (or-left (eqb x c) (has c xs) e) (ap suc (before-append c xs b (or-right (eqb x c) (has c xs) e)))

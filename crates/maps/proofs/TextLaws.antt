@@ -22,10 +22,6 @@ part-cut l i j n h = ap (take (j - i)) (drop-take i n l) ∙ take-take (j - i) (
 pub part-same : (l l′ : List ℕ) (i j n : ℕ) → j ≤ n → take n l ≡ take n l′ → part i j l ≡ part i j l′
 part-same l l′ i j n h e = sym (part-cut l i j n h) ∙ ap (part i j) e ∙ part-cut l′ i j n h
 
--- a part of the front does not see what stands behind it
-pub part-front : (l q : List ℕ) (i j : ℕ) → j ≤ length l → part i j (l ++ q) ≡ part i j l
-part-front l q i j h = part-same (l ++ q) l i j (length l) h (take-append-seam l q ∙ sym (take-length l))
-
 -- two pairs of loans that agree below the count and the mark
 module _ (count mark : ℕ) (b b′ s s′ : List ℕ) (e : take count b ≡ take count b′) (g : take mark s ≡ take mark s′) where
   pub same-at : {p : Place} → Fits count mark p → at b s p ≡ at b′ s′ p
@@ -39,3 +35,17 @@ module _ (count mark : ℕ) (b b′ s s′ : List ℕ) (e : take count b ≡ tak
   pub same-pairs : {xs : List Field} → FitAll count mark xs → map (pairAt b s) xs ≡ map (pairAt b′ s′) xs
   same-pairs fit-none = refl
   same-pairs (fit-more f r) = rw (same-at (f .key), same-at (f .value), same-pairs r)
+
+-- more octets behind those of the block and of the store
+module _ (b s x y : List ℕ) where
+  front : (l q : List ℕ) → take (length l) (l ++ q) ≡ take (length l) l
+  front l q = take-append-seam l q ∙ sym (take-length l)
+
+  pub at-front : {p : Place} → Fits (length b) (length s) p → at (b ++ x) (s ++ y) p ≡ at b s p
+  at-front f = same-at (length b) (length s) (b ++ x) b (s ++ y) s (front b x) (front s y) f
+
+  pub status-front : {t : Status} → FitStatus (length b) (length s) t → statusAt (b ++ x) (s ++ y) t ≡ statusAt b s t
+  status-front f = same-status (length b) (length s) (b ++ x) b (s ++ y) s (front b x) (front s y) f
+
+  pub pairs-front : {xs : List Field} → FitAll (length b) (length s) xs → map (pairAt (b ++ x) (s ++ y)) xs ≡ map (pairAt b s) xs
+  pairs-front f = same-pairs (length b) (length s) (b ++ x) b (s ++ y) s (front b x) (front s y) f

@@ -64,6 +64,18 @@ atBlank Blank = true
 atBlank Input = false
 atBlank (Refused e) = false
 
+-- the reading was refused
+abbrev pub refused : Answer → Bool
+refused More = false
+refused Blank = false
+refused Input = false
+refused (Refused e) = true
+
+-- the answer of a feed that is not refused, by whether the block has ended
+abbrev pub answered : Bool → Answer
+answered false = More
+answered true = Blank
+
 -- the same reading in octets
 abbrev pub listeningOf : Reading → Listening
 listeningOf r = record { count = length (r .block); line = drop (r .line) (r .block); hearing = hearingOf r; ended = atBlank (r .answer) }

@@ -93,7 +93,9 @@ module _ (l : List ℕ) (status quirks : Bool) (limit : ℕ) where
 
   by : limit ≤ 65536 → (t : Bool) → (leb (length l) limit && scanned status l) ≡ t → answer t ≡ tidying l status quirks limit
   unfolding tidying if_then_else_
-  by h t e = rw (le-leb limit 65536 h, tidy-scanned (rules limit quirks) status l, e)
+  by h t e =
+      let z : limit ≤ limit = omega arith in
+      rw (le-leb limit 65536 h, tidy-scanned (rules limit quirks) z status l, e)
 
   pub tidy-long : limit ≤ 65536 → limit < length l → No ≡ tidying l status quirks limit
   tidy-long h k = by h false (rw (lt-leb (length l) limit k))
@@ -101,7 +103,9 @@ module _ (l : List ℕ) (status quirks : Bool) (limit : ℕ) where
   pub tidy-by : limit ≤ 65536 → length l ≤ limit → (t : Bool) → scanned status l ≡ t → answer t ≡ tidying l status quirks limit
   tidy-by h k t e = by h t (rw (le-leb (length l) limit k, e))
 
--- the answer is that of a reading in any room
-pub tidy-any-room : (l : List ℕ) (status : Bool) (R : Rules) → R .limit ≤ 65536 → tidying l status (R .quirks) (R .limit) ≡ answer (tidy R status l)
+-- the answer is that of a reading in any room that begin takes
+pub tidy-any-room : (l : List ℕ) (status : Bool) (R : Rules) → R .limit ≤ 65536 → R .limit ≤ R .room → tidying l status (R .quirks) (R .limit) ≡ answer (tidy R status l)
 unfolding tidying if_then_else_
-tidy-any-room l status R h = rw (le-leb (R .limit) 65536 h, tidy-flags (rules (R .limit) (R .quirks)) R refl status l)
+tidy-any-room l status R h k =
+    let z : R .limit ≤ R .limit = omega arith in
+    rw (le-leb (R .limit) 65536 h, tidy-flags (rules (R .limit) (R .quirks)) R z k refl status l)

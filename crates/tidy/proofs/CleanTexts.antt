@@ -1,46 +1,17 @@
--- What a clean text has not: LF, outer blanks, and in keys the colon; so its line is no fold and no end. Assumes nothing.
-use mathlib.Core.Path.{_≡_, refl, sym, _∙_, ap}
-use mathlib.Core.Bool.{Bool, true, false, _&&_, not, false≢true}
-use mathlib.Core.List.{List, [], _∷_, _++_}
-use Prim.Native.Nat.{ℕ, suc, _+_}
-use borrow.Author.Tests.{eq-eqb, ne-eqb, not-true}
-use lib.Dec.{eqb}
-use lib.ListN.{length}
-use Rattle.leaves.specs.Choice.{by-if, and-left, and-right, and-both, or-left, or-right}
+-- What a clean text has not: LF, outer blanks, and in keys the colon. Assumes nothing.
+use mathlib.Core.Path.{_≡_, ap}
+use mathlib.Core.Bool.{true, false, _&&_, not}
+use mathlib.Core.List.{List, _∷_}
+use Prim.Native.Nat.{ℕ}
+use borrow.Author.Tests.{not-true}
+use Rattle.leaves.specs.Choice.{and-left, and-right, and-both}
 use Rattle.leaves.specs.Class.{blank}
-use Rattle.leaves.specs.Octets.{has, before, all, sameList}
+use Rattle.leaves.specs.Octets.{has, sameList}
 use Rattle.leaves.specs.Trim.{trimmed}
 use Rattle.leaves.proofs.NameLaws.{same-list-eq}
-use Rattle.folds.specs.Rule.{continues, endsBlock}
+use Rattle.leaves.proofs.TrimTexts.{first-solid}
 use Rattle.maps.specs.Said.{Pair}
 use Rattle.tidy.specs.Clean.{neat, filled, cleanPair}
-use Rattle.tidy.proofs.TrimTexts.{first-solid}
-
-pub has-append : (c : ℕ) (a b : List ℕ) → has c a ≡ false → has c b ≡ false → has c (a ++ b) ≡ false
-unfolding has
-has-append c [] b e f = f
-has-append c (x ∷ xs) b e f = rw (or-left (eqb x c) (has c xs) e) (has-append c xs b (or-right (eqb x c) (has c xs) e) f)
-
-pub before-append : (c : ℕ) (a b : List ℕ) → has c a ≡ false → before c (a ++ c ∷ b) ≡ length a
-unfolding has before
-before-append c [] b e = rw (eq-eqb c c refl)
-before-append c (x ∷ xs) b e = rw (or-left (eqb x c) (has c xs) e) (ap suc (before-append c xs b (or-right (eqb x c) (has c xs) e)))
-
--- an octet that is no blank is none of them
-unblank : (c x : ℕ) → blank c ≡ true → blank x ≡ false → eqb x c ≡ false
-unblank c x t f = ne-eqb x c (λ e. false≢true (sym f ∙ ap blank e ∙ t))
-
--- a line that begins with no blank is no fold, nor does it end the block
-pub no-fold : (x : ℕ) (l : List ℕ) → blank x ≡ false → continues (x ∷ l) ≡ false
-unfolding blank has
-no-fold x l f = rw (unblank 32 x refl f, unblank 9 x refl f)
-
-pub no-end : (quirks : Bool) (x : ℕ) (l : List ℕ) → blank x ≡ false → endsBlock quirks (x ∷ l) ≡ false
-unfolding endsBlock all sameList blank has
-no-end quirks x l f =
-    by-if (λ (t : Bool). t ≡ false) quirks _ _
-    (λ e. ap (λ (t : Bool). t && all blank l) f)
-    (λ e. ap (λ (t : Bool). t && sameList l (10 ∷ [])) (unblank 13 x refl f))
 
 -- what neat gives
 pub neat-cr : (l : List ℕ) → neat l ≡ true → has 13 l ≡ false

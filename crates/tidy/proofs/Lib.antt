@@ -1,12 +1,7 @@
-pub mod TrimTexts
 pub mod CleanTexts
-pub mod LineReads
-pub mod PairReads
-pub mod PairSays
+pub mod PairsHeard
 pub mod ReadsBack
-pub mod FewFields
 pub mod TidyBlocks
-pub mod MapSays
 pub mod ScanLines
 pub mod ScanPairs
 pub mod ScanBlocks

@@ -3,7 +3,7 @@ use mathlib.Core.Path.{_≡_, refl, sym, _∙_, ap}
 use mathlib.Core.Bool.{Bool, true, false, _&&_, false≢true}
 use mathlib.Core.List.{List, [], _∷_, _++_, append-assoc}
 use mathlib.Core.Option.{Option, none, some}
-use Prim.Native.Nat.{ℕ, _+_, _≤_}
+use Prim.Native.Nat.{ℕ, _≤_}
 use borrow.Author.Tests.{le-leb, leb-true}
 use lib.Dec.{leb}
 use lib.ListN.{length, take}
@@ -65,8 +65,8 @@ rebuilds-scanned limit status b m h =
     (scan-rebuilt (m .status) (m .pairs) (and-left (cleanStatus (m .status)) (cleanPairs (m .pairs)) (h .isClean))
     (and-right (cleanStatus (m .status)) (cleanPairs (m .pairs)) (h .isClean)) (h .few))
 
-pub tidy-scanned : (R : Rules) (status : Bool) (b : List ℕ) → tidy R status b ≡ (leb (length b) (R .limit) && scanned status b)
-tidy-scanned R status b = both (tidy R status b) (leb (length b) (R .limit) && scanned status b) there back
+pub tidy-scanned : (R : Rules) → R .limit ≤ R .room → (status : Bool) (b : List ℕ) → tidy R status b ≡ (leb (length b) (R .limit) && scanned status b)
+tidy-scanned R rooms status b = both (tidy R status b) (leb (length b) (R .limit) && scanned status b) there back
   where
     there : tidy R status b ≡ true → (leb (length b) (R .limit) && scanned status b) ≡ true
     there t =
@@ -76,4 +76,4 @@ tidy-scanned R status b = both (tidy R status b) (leb (length b) (R .limit) && s
     back : (leb (length b) (R .limit) && scanned status b) ≡ true → tidy R status b ≡ true
     back e =
         let r = rebuilt-scan (R .limit) status b (leb-true (length b) (R .limit) (and-left (leb (length b) (R .limit)) (scanned status b) e)) (and-right (leb (length b) (R .limit)) (scanned status b) e) in
-        rebuilds-tidy R status b (r .0) (r .1)
+        rebuilds-tidy R rooms status b (r .0) (r .1)

@@ -9,10 +9,11 @@ use lib.Seq.{take-at, drop-at, drop-append-add, drop-drop}
 use Rattle.leaves.specs.Choice.{and-left, and-right, and-both}
 use Rattle.leaves.specs.Octets.{has, before, sameList}
 use Rattle.leaves.proofs.NameLaws.{same-list-refl, same-list-eq}
+use Rattle.leaves.proofs.SearchLaws.{before-append}
 use Rattle.writes.specs.Written.{crlf, labelled, pairLine}
 use Rattle.tidy.specs.Clean.{neat, filled}
 use Rattle.tidy.specs.Scan.{neatLine, afterLine, neatKey, afterKey}
-use Rattle.tidy.proofs.CleanTexts.{before-append, neat-cr}
+use Rattle.tidy.proofs.CleanTexts.{neat-cr}
 
 pub none-before : (c : ℕ) (l : List ℕ) → has c (take (before c l) l) ≡ false
 unfolding has before

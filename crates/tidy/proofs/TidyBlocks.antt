@@ -11,12 +11,13 @@ use Rattle.leaves.specs.Choice.{and-left, and-right}
 use Rattle.leaves.specs.Octets.{sameList}
 use Rattle.leaves.proofs.NameLaws.{same-list-refl, same-list-eq}
 use Rattle.readings.specs.Listening.{said, atBlank}
+use Rattle.readings.proofs.Kept.{fed-later}
+use Rattle.readings.proofs.ListeningLaws.{sound-begun}
 use Rattle.reader.specs.Reading.{Rules, Reading, fed, begun}
 use Rattle.maps.specs.Said.{Said, pairAt}
 use Rattle.writes.specs.Written.{rebuilt}
 use Rattle.tidy.specs.Clean.{clean, expects, Gives, alike, tidyAfter, tidy, Rebuilds}
 use Rattle.tidy.proofs.ReadsBack.{back}
-use Rattle.tidy.proofs.FewFields.{fed-within}
 
 alike-same : (a b : Bool) → alike a b ≡ true → a ≡ b
 alike-same true b e = sym e
@@ -62,7 +63,7 @@ pub tidy-rebuilds : (R : Rules) (status : Bool) (b : List ℕ) → tidy R status
 unfolding tidy
 tidy-rebuilds R status b t =
     let r = fed R (begun status) b in
-    let w = fed-within R (begun status) b (record { limit = omega arith; few = omega arith }) in
+    let w = fed-later R (begun status) b (sound-begun R status) .sound in
     after-rebuilds status b r t (R .limit) (w .limit) (said-few r (w .few))
 
 gives-tidy : (m : Said) (r : Reading) → clean m ≡ true → Gives (rebuilt m) m r → tidyAfter (expects (m .status)) (rebuilt m) r ≡ true
@@ -72,16 +73,16 @@ gives-tidy m r c g =
     (same-list-refl (rebuilt m))
 
 -- the rebuilt block of a clean map is tidy, if it fits
-pub clean-tidy : (R : Rules) (m : Said) → clean m ≡ true → length (m .pairs) ≤ 256 → length (rebuilt m) ≤ R .limit
+pub clean-tidy : (R : Rules) → R .limit ≤ R .room → (m : Said) → clean m ≡ true → length (m .pairs) ≤ 256 → length (rebuilt m) ≤ R .limit
     → tidy R (expects (m .status)) (rebuilt m) ≡ true
 unfolding tidy
-clean-tidy R m c h z = gives-tidy m (fed R (begun (expects (m .status))) (rebuilt m)) c (back R m c h z)
+clean-tidy R rooms m c h z = gives-tidy m (fed R (begun (expects (m .status))) (rebuilt m)) c (back R rooms m c h z)
 
 -- and every rebuilt block of a clean map that keeps within the limits is tidy
-pub rebuilds-tidy : (R : Rules) (status : Bool) (b : List ℕ) (m : Said) → Rebuilds (R .limit) status b m → tidy R status b ≡ true
-rebuilds-tidy R status b m h =
+pub rebuilds-tidy : (R : Rules) → R .limit ≤ R .room → (status : Bool) (b : List ℕ) (m : Said) → Rebuilds (R .limit) status b m → tidy R status b ≡ true
+rebuilds-tidy R rooms status b m h =
     let z : length (rebuilt m) ≤ R .limit = rw (h .is) at (h .fits) in
-    rw (h .is, ← h .agrees) (clean-tidy R m (h .isClean) (h .few) z)
+    rw (h .is, ← h .agrees) (clean-tidy R rooms m (h .isClean) (h .few) z)
 
 -- at most one tidy block has a given reading
 pub tidy-one : (R : Rules) (status : Bool) (b b′ : List ℕ) → tidy R status b ≡ true → tidy R status b′ ≡ true
@@ -89,12 +90,12 @@ pub tidy-one : (R : Rules) (status : Bool) (b b′ : List ℕ) → tidy R status
 tidy-one R status b b′ t t′ e = tidy-rebuilds R status b t .is ∙ ap rebuilt e ∙ sym (tidy-rebuilds R status b′ t′ .is)
 
 -- "of all complete blocks with that reading exactly this one is tidy"
-pub tidy-exactly : (R : Rules) (m : Said) → clean m ≡ true → length (m .pairs) ≤ 256 → length (rebuilt m) ≤ R .limit
+pub tidy-exactly : (R : Rules) → R .limit ≤ R .room → (m : Said) → clean m ≡ true → length (m .pairs) ≤ 256 → length (rebuilt m) ≤ R .limit
     → (b : List ℕ) → Gives b m (fed R (begun (expects (m .status))) b)
     → (tidy R (expects (m .status)) b ≡ true → b ≡ rebuilt m) × (b ≡ rebuilt m → tidy R (expects (m .status)) b ≡ true)
-tidy-exactly R m c h z b g = (
+tidy-exactly R rooms m c h z b g = (
   λ t. tidy-rebuilds R (expects (m .status)) b t .is ∙ ap rebuilt (g .says),
-  λ e. ap (tidy R (expects (m .status))) e ∙ clean-tidy R m c h z,
+  λ e. ap (tidy R (expects (m .status))) e ∙ clean-tidy R rooms m c h z,
 )
 
 -- two tests that pass together are the same
@@ -103,11 +104,11 @@ both true q f g = sym (f refl)
 both false true f g = g refl
 both false false f g = refl
 
--- neither quirks nor the store's room matter
-pub tidy-flags : (R R′ : Rules) → R .limit ≡ R′ .limit → (status : Bool) (b : List ℕ) → tidy R status b ≡ tidy R′ status b
-tidy-flags R R′ e status b = both (tidy R status b) (tidy R′ status b) (carry R R′ e) (carry R′ R (sym e))
+-- neither quirks nor the store's room matter, if the room is no less than the limit
+pub tidy-flags : (R R′ : Rules) → R .limit ≤ R .room → R′ .limit ≤ R′ .room → R .limit ≡ R′ .limit → (status : Bool) (b : List ℕ) → tidy R status b ≡ tidy R′ status b
+tidy-flags R R′ rooms rooms′ e status b = both (tidy R status b) (tidy R′ status b) (carry R R′ rooms′ e) (carry R′ R rooms (sym e))
   where
-    carry : (R R′ : Rules) → R .limit ≡ R′ .limit → tidy R status b ≡ true → tidy R′ status b ≡ true
-    carry R R′ e t =
+    carry : (R R′ : Rules) → R′ .limit ≤ R′ .room → R .limit ≡ R′ .limit → tidy R status b ≡ true → tidy R′ status b ≡ true
+    carry R R′ rooms′ e t =
         let m = said (fed R (begun status) b) in
-        rebuilds-tidy R′ status b m (subst (λ (n : ℕ). Rebuilds n status b m) e (tidy-rebuilds R status b t))
+        rebuilds-tidy R′ rooms′ status b m (subst (λ (n : ℕ). Rebuilds n status b m) e (tidy-rebuilds R status b t))
