@@ -10,7 +10,7 @@ use borrow.Author.Tests.{eqb-true}
 use lib.Dec.{eqb}
 use lib.ListN.{length, length-append}
 use lib.Seq.{append-snoc}
-use Rattle.leaves.specs.Choice.{if_then_else_, and-left, and-right}
+use Rattle.leaves.specs.Choice.{and-left, and-right}
 use Rattle.leaves.specs.Class.{token, text, blank}
 use Rattle.leaves.specs.Octets.{octets, has, all, sameList}
 use Rattle.leaves.specs.Trim.{leading, trimStart, trimEnd, trimmed}
@@ -22,7 +22,7 @@ use Rattle.maps.proofs.SaidLaws.{pair-same}
 use Rattle.folds.specs.Rule.{endsBlock}
 use Rattle.readings.specs.Heard.{Hearing, heard}
 use Rattle.readings.specs.Listening.{Listening, silent, listening}
-use Rattle.readings.proofs.HeardLaws.{hearing, between, over, heard-status, heard-fold, heard-field, no-fold, no-end, line-on, blank-listened}
+use Rattle.readings.proofs.HeardLaws.{hearing, between, over, heard-status, heard-fold, heard-field, no-fold, no-end, no-cr, line-on, blank-listened}
 use Rattle.writes.specs.Written.{crlf}
 use Rattle.grammar.specs.Grammar.{Fold, Entry, Header, isFold, areFolds, isToken, isEntry, areEntries, isHeader, foldLines, entryLines, headerLines}
 use Rattle.grammar.specs.Gives.{foldedOn, pairOf}
@@ -36,9 +36,8 @@ by-lead P s t x e = go (eqb x 32) refl e
     go true u e = subst P (sym (eqb-true x 32 u)) s
     go false u e = subst P (sym (eqb-true x 9 e)) t
 
-fold-on : (l : List ℕ) (x : ℕ) → (eqb x 32 || eqb x 9) ≡ true → endsBlock false (x ∷ l) ≡ false
-unfolding endsBlock sameList if_then_else_
-fold-on l = by-lead (λ (x : ℕ). endsBlock false (x ∷ l) ≡ false) refl refl
+lead-on : (l : List ℕ) (x : ℕ) → (eqb x 32 || eqb x 9) ≡ true → endsBlock false (x ∷ l) ≡ false
+lead-on l = by-lead (λ (x : ℕ). endsBlock false (x ∷ l) ≡ false) (no-cr 32 l refl) (no-cr 9 l refl)
 
 lead-blank : (x : ℕ) → (eqb x 32 || eqb x 9) ≡ true → blank x ≡ true
 unfolding blank has
@@ -77,7 +76,7 @@ module _ (st : Option (List ℕ)) where
       let t : trimmed ((x ∷ u) ++ crlf) ≡ trimmed u = trim-blank x (u ++ crlf) (lead-blank x lead) ∙ trim-line u in
       ap (λ (l : List ℕ). from n (ps ++ record { key = k; value = v } ∷ []) (x ∷ l)) (append-assoc u (crlf ++ foldLines fs) w) ∙
       line-from n (ps ++ record { key = k; value = v } ∷ []) (ps ++ record { key = k; value = v ++ 32 ∷ trimmed u } ∷ []) (x ∷ u) (foldLines fs ++ w)
-      (lead-lf u (text-lf u plain) x lead) (fold-on (u ++ crlf) x lead)
+      (lead-lf u (text-lf u plain) x lead) (lead-on (u ++ crlf) x lead)
       (heard-fold ((x ∷ u) ++ crlf) st ps k v lead ∙ ap (λ (r : List ℕ). hearing st (ps ++ record { key = k; value = v ++ 32 ∷ r } ∷ [])) t) ∙
       folds-heard fs ps k (v ++ 32 ∷ trimmed u) w (n + length (x ∷ u) + 2) (and-right (isFold f) (areFolds fs) e) ∙
       ap (λ (j : ℕ). from j (ps ++ record { key = k; value = foldedOn (v ++ 32 ∷ trimmed u) fs } ∷ []) w) z
@@ -132,12 +131,12 @@ record Plain (v : List ℕ) : Type 0 where
   trim : trimmed v ≡ v
 
 version-plain : (v : List ℕ) → (sameList v (octets "WARC/1.0") || sameList v (octets "WARC/1.1")) ≡ true → Plain v
-unfolding blank has trimEnd trimStart leading endsBlock sameList if_then_else_
+unfolding blank has trimEnd trimStart leading
 version-plain v t = go (sameList v (octets "WARC/1.0")) refl t
   where
     go : (b : Bool) → sameList v (octets "WARC/1.0") ≡ b → (b || sameList v (octets "WARC/1.1")) ≡ true → Plain v
-    go true u t = subst Plain (sym (same-list-eq v (octets "WARC/1.0") u)) (record { lf = refl; on = refl; trim = refl })
-    go false u t = subst Plain (sym (same-list-eq v (octets "WARC/1.1") t)) (record { lf = refl; on = refl; trim = refl })
+    go true u t = subst Plain (sym (same-list-eq v (octets "WARC/1.0") u)) (record { lf = refl; on = no-end false 87 _ refl; trim = refl })
+    go false u t = subst Plain (sym (same-list-eq v (octets "WARC/1.1") t)) (record { lf = refl; on = no-end false 87 _ refl; trim = refl })
 
 -- a header says its version and its fields, and its last line ends the block
 pub header-heard : (h : Header) → isHeader h ≡ true

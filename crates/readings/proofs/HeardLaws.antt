@@ -97,6 +97,11 @@ no-end quirks x l f =
     (λ e. ap (λ (t : Bool). t && all blank l) f)
     (λ e. ap (λ (t : Bool). t && sameList l (10 ∷ [])) (unblank 13 x refl f))
 
+-- without quirks only a line that begins with CR can end it
+pub no-cr : (x : ℕ) (l : List ℕ) → eqb x 13 ≡ false → endsBlock false (x ∷ l) ≡ false
+unfolding endsBlock sameList if_then_else_
+no-cr x l e = ap (λ (t : Bool). t && sameList l (10 ∷ [])) e
+
 pub blank-ends : (quirks : Bool) → endsBlock quirks (13 ∷ 10 ∷ []) ≡ true
 unfolding endsBlock if_then_else_ sameList all blank has
 blank-ends true = refl
@@ -134,7 +139,7 @@ module _ (quirks : Bool) where
     octet-on o e = rw e
 
   -- LF behind a CR ends a line, another octet does not
-  pub cr-last : (p : List ℕ) → crBefore (p ++ 13 ∷ []) 0 (length (p ++ 13 ∷ [])) ≡ true
+  cr-last : (p : List ℕ) → crBefore (p ++ 13 ∷ []) 0 (length (p ++ 13 ∷ [])) ≡ true
   unfolding crBefore
   cr-last p =
       let q : length (p ++ 13 ∷ []) ≡ length p + 1 = length-append p (13 ∷ []) in

@@ -6,3 +6,4 @@ pub mod RuleHeard
 pub mod ListeningLaws
 pub mod MapSays
 pub mod Begun
+pub mod HearsHold

@@ -4,7 +4,7 @@ use mathlib.Core.Bool.{Bool, true, false, not, false≢true}
 use mathlib.Core.List.{List, [], _∷_, _++_, map, append-nil}
 use Prim.Native.Nat.{ℕ, suc, _-_, _≤_, _<_}
 use native.Mathlib.Omega.{arith}
-use borrow.Author.Tests.{eqb-true, eqb-false, ltb-true, ltb-false}
+use borrow.Author.Tests.{eqb-true, eqb-false, ltb-true, ltb-false, not-true}
 use lib.ListN.{length, take, drop, length-append, length-drop, drop-of-length-le}
 use lib.Seq.{drop-length, drop-append-le, append-snoc, take-nil, take-all}
 use Rattle.leaves.specs.Choice.{by-if}
@@ -26,9 +26,9 @@ use Rattle.readings.specs.Listening.{Listening, silent, lineHeard, liste
 use Rattle.readings.proofs.Kept.{Sound, fed-later}
 use Rattle.readings.proofs.Thrift.{numbered, Thrifty, fed-thrifty}
 use Rattle.readings.proofs.HeardLaws.{between, within, octet-ends, octet-on, line-over, line-heard, cr-line, listened-count, listened-keeps, ended-stays, last-heard}
-use Rattle.readings.proofs.RuleHeard.{HearsC, ruled-hears, line-hears}
+use Rattle.readings.proofs.RuleHeard.{HeardC, ruled-hears, line-hears}
 
-same-listening : (c c′ : ℕ) (l l′ : List ℕ) (h h′ : Hearing) (e : Bool) → c ≡ c′ → l ≡ l′ → h ≡ h′
+pub same-listening : (c c′ : ℕ) (l l′ : List ℕ) (h h′ : Hearing) (e : Bool) → c ≡ c′ → l ≡ l′ → h ≡ h′
     → _≡_ {A = Listening} (record { count = c; line = l; hearing = h; ended = e }) (record { count = c′; line = l′; hearing = h′; ended = e })
 same-listening c c′ l l′ h h′ e p q s = rw (p, q, s)
 
@@ -51,7 +51,7 @@ module _ (R : Rules) where
   record Tells (l : Listening) (z : Reading) : Type 0 where
     is : Told l z (z .answer)
 
-  lined-tells : (r : Reading) (new : List ℕ) (c : Change) → HearsC (r .block) (r .line) (r .found) new c
+  lined-tells : (r : Reading) (new : List ℕ) (c : Change) → HeardC (r .block) (r .line) (r .found) new c
       → Tells (between (length (r .block)) (heard (drop (r .line) (r .block)) (hearingOf r))) (lined r More new c)
   unfolding said
   lined-tells r new Nothing h = record { is = same-listening _ _ _ _ _ _ false refl (drop-length (r .block)) h }
@@ -232,10 +232,6 @@ module _ (R : Rules) where
   unfolding closed
   closed-block r = by-if (λ (z : Reading). z .block ≡ r .block) _ _ _ (λ e. refl) (λ e. lined-block r More (ruled R r .new) (ruled R r .change))
 
-  not-goes : (a : Bool) → not a ≡ true → a ≡ false
-  not-goes true e = sym e
-  not-goes false e = refl
-
   -- an octet is taken, or nothing from it on
   data Takes (r : Reading) (o : ℕ) (z : Reading) : Type 0 where
     none : z .block ≡ r .block → goes (z .answer) ≡ false → Takes r o z
@@ -244,7 +240,7 @@ module _ (R : Rules) where
   step-takes : (r : Reading) (o : ℕ) → Takes r o (step R r o)
   unfolding step put
   step-takes r o =
-      by-if (Takes r o) _ _ _ (λ e. none refl (not-goes (goes (r .answer)) e))
+      by-if (Takes r o) _ _ _ (λ e. none refl (not-true (goes (r .answer)) e))
       (λ e. by-if (Takes r o) _ _ _ (λ e. none refl refl)
       (λ e. by-if (Takes r o) _ _ _ (λ e. one (closed-block (with r o))) (λ e. one refl)))
 

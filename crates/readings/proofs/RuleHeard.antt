@@ -71,15 +71,15 @@ module _ (b : List ℕ) (n : ℕ) (f : Found) where
   abbrev anew : Hearing
   anew = heard line (tells b f)
 
-  -- a change says what is heard; 5 is met only where a 257th field would be heard, and apart from it no number but 6
-  abbrev pub HearsC : List ℕ → Change → Type 0
-  HearsC new Nothing = tells b (changed f new Nothing) ≡ anew
-  HearsC new (Headed p) = tells b (changed f new (Headed p)) ≡ anew
-  HearsC new (Put slot x to) = tells b (changed f new (Put slot x to)) ≡ anew
-  HearsC new (Stops e) = length (anew .said .pairs) ≤ 256 → number e ≡ 6
+  -- a change says what is heard; a line is refused by 6, or where a 257th field would be heard
+  abbrev pub HeardC : List ℕ → Change → Type 0
+  HeardC new Nothing = tells b (changed f new Nothing) ≡ anew
+  HeardC new (Headed p) = tells b (changed f new (Headed p)) ≡ anew
+  HeardC new (Put slot x to) = tells b (changed f new (Put slot x to)) ≡ anew
+  HeardC new (Stops e) = length (anew .said .pairs) ≤ 256 → number e ≡ 6
 
-  pub record Hears (g : Ruling) : Type 0 where
-    pub is : HearsC (g .new) (g .change)
+  pub record IsHeard (g : Ruling) : Type 0 where
+    pub is : HeardC (g .new) (g .change)
 
   abbrev sayings : List Field → List Pair
   sayings xs = map (pairAt b (f .store)) xs
@@ -99,7 +99,7 @@ module _ (b : List ℕ) (n : ℕ) (f : Found) where
   unfolding heard
   anew-split e c = if-false _ _ e ∙ if-false _ _ c
 
-  head-hears : f .awaits ≡ true → Hears (plain (Headed (trimmedAt n line)))
+  head-hears : f .awaits ≡ true → IsHeard (plain (Headed (trimmedAt n line)))
   head-hears e =
       record {
         is =
@@ -118,9 +118,9 @@ module _ (b : List ℕ) (n : ℕ) (f : Found) where
     module _ (room : ℕ) where
       grown-hears : (slot : ℕ) (key : Place) (from : ℕ) (new : List ℕ)
           → ((to : ℕ) → tells b (changed f new (Put slot (record { key = key; value = inStore from (length (f .store) + length new) }) to)) ≡ anew)
-          → Hears (grown room slot key from (length (f .store)) new)
+          → IsHeard (grown room slot key from (length (f .store)) new)
       unfolding grown
-      grown-hears slot key from new h = by-if Hears _ _ _ (λ e. record { is = h (length (f .store) + length new) }) (λ e. record { is = λ few. refl })
+      grown-hears slot key from new h = by-if IsHeard _ _ _ (λ e. record { is = h (length (f .store) + length new) }) (λ e. record { is = λ few. refl })
 
       -- the last value regrown
       module _ (awaits : f .awaits ≡ false) (folds : continues line ≡ true) (some : 0 < length (f .fields)) where
@@ -149,7 +149,7 @@ module _ (b : List ℕ) (n : ℕ) (f : Found) where
 
         value-hears : (from : ℕ) (new : List ℕ)
             → part from (length (f .store) + length new) (f .store ++ new) ≡ at b (f .store) (last .value) ++ 32 ∷ trimmed line
-            → Hears (grown room (length (f .fields) - 1) (last .key) from (length (f .store)) new)
+            → IsHeard (grown room (length (f .fields) - 1) (last .key) from (length (f .store)) new)
         value-hears from new e =
             grown-hears (length (f .fields) - 1) (last .key) from new
             (λ to.
@@ -159,13 +159,13 @@ module _ (b : List ℕ) (n : ℕ) (f : Found) where
             sym anew-last)
 
         regrown-hears : (p : Place) → last .value ≡ p → Fits (length b) (length (f .store)) p
-            → Hears (regrown room b (length (f .fields) - 1) (last .key) p (length (f .store)) (f .store) (trimmed line))
+            → IsHeard (regrown room b (length (f .fields) - 1) (last .key) p (length (f .store)) (f .store) (trimmed line))
         unfolding regrown
         regrown-hears p e (in-block x y h k) =
             value-hears (length (f .store)) (part x y b ++ 32 ∷ trimmed line)
             (part-new (f .store) (part x y b ++ 32 ∷ trimmed line) ∙ ap (λ (q : Place). at b (f .store) q ++ 32 ∷ trimmed line) (sym e))
         regrown-hears p e (in-store x y h k) =
-            by-if Hears _ _ _
+            by-if IsHeard _ _ _
             (λ d. value-hears x (32 ∷ trimmed line)
             (part-grown (f .store) (32 ∷ trimmed line) x (omega arith) ∙
             ap (λ (t : List ℕ). t ++ 32 ∷ trimmed line)
@@ -174,10 +174,10 @@ module _ (b : List ℕ) (n : ℕ) (f : Found) where
             (part-new (f .store) (part x y (f .store) ++ 32 ∷ trimmed line) ∙ ap (λ (q : Place). at b (f .store) q ++ 32 ∷ trimmed line) (sym e)))
 
       folded-hears : f .awaits ≡ false → continues line ≡ true
-          → Hears (folded room b (length (f .fields)) (lastOf (f .fields)) (length (f .store)) (f .store) (trimmed line))
+          → IsHeard (folded room b (length (f .fields)) (lastOf (f .fields)) (length (f .store)) (f .store) (trimmed line))
       unfolding folded continued
       folded-hears a c =
-          by-if Hears _ _ _
+          by-if IsHeard _ _ _
           (λ e. grown-hears 0 (inStore (length (f .store)) (length (f .store))) (length (f .store)) (trimmed line)
           (λ to.
           put-says 0 (record { key = inStore (length (f .store)) (length (f .store)); value = inStore (length (f .store)) (length (f .store) + length (trimmed line)) }) to (trimmed line)
@@ -188,14 +188,14 @@ module _ (b : List ℕ) (n : ℕ) (f : Found) where
           let some : 0 < length (f .fields) = omega (arith, eqb-false (length (f .fields)) 0 e) in
           regrown-hears a c some (last a c some .value) refl (last-fits a c some .value))
 
-      split-hears : f .awaits ≡ false → continues line ≡ false → Hears (split n line (length (f .fields)) (length (f .store)))
+      split-hears : f .awaits ≡ false → continues line ≡ false → IsHeard (split n line (length (f .fields)) (length (f .store)))
       unfolding split fieldsIn
       split-hears a c =
           let k = before 58 line in
           let heads : ltb k (length line) ≡ true → anew ≡ with (sayings (f .fields) ++ record { key = trimmed (take k line); value = trimmed (drop (k + 1) line) } ∷ []) =
           λ e. anew-split a c ∙ ap (λ (ps : List Pair). with (sayings (f .fields) ++ ps)) (if-true _ _ e) in
-          by-if Hears _ _ _
-          (λ e. by-if Hears _ _ _
+          by-if IsHeard _ _ _
+          (λ e. by-if IsHeard _ _ _
           (λ d. record {
             is =
                 put-says (length (f .fields)) (record { key = trimmedAt n (take k line); value = trimmedAt (n + (k + 1)) (drop (k + 1) line) }) (length (f .store)) []
@@ -213,11 +213,11 @@ module _ (b : List ℕ) (n : ℕ) (f : Found) where
           }))
           (λ e. record { is = sym (anew-split a c ∙ ap (λ (ps : List Pair). with (sayings (f .fields) ++ ps)) (if-false _ _ e) ∙ ap with (append-nil (sayings (f .fields)))) })
 
-      rule4-hears : Hears (rule4 room b n (f .awaits) (length (f .fields)) (lastOf (f .fields)) (length (f .store)) (f .store))
+      rule4-hears : IsHeard (rule4 room b n (f .awaits) (length (f .fields)) (lastOf (f .fields)) (length (f .store)) (f .store))
       unfolding rule4
-      rule4-hears = by-if Hears _ _ _ head-hears (λ a. by-if Hears _ _ _ (folded-hears a) (split-hears a))
+      rule4-hears = by-if IsHeard _ _ _ head-hears (λ a. by-if IsHeard _ _ _ (folded-hears a) (split-hears a))
 
-lined-hears : (r : Reading) (a : Answer) (new : List ℕ) (c : Change) → HearsC (r .block) (r .line) (r .found) new c → refused (lined r a new c .answer) ≡ false
+lined-hears : (r : Reading) (a : Answer) (new : List ℕ) (c : Change) → HeardC (r .block) (r .line) (r .found) new c → refused (lined r a new c .answer) ≡ false
     → hearingOf (lined r a new c) ≡ heard (drop (r .line) (r .block)) (hearingOf r)
 unfolding said
 lined-hears r a new Nothing h e = h
@@ -226,7 +226,7 @@ lined-hears r a new (Put slot x to) h e = h
 lined-hears r a new (Stops x) h e = absurd (false≢true (sym e))
 
 module _ (R : Rules) (r : Reading) (sound : Sound R r) where
-  pub ruled-hears : Hears (r .block) (r .line) (r .found) (ruled R r)
+  pub ruled-hears : IsHeard (r .block) (r .line) (r .found) (ruled R r)
   unfolding ruled
   ruled-hears = rule4-hears (r .block) (r .line) (r .found) (sound .fields) (sound .status) (R .room)
 

@@ -1,3 +1,4 @@
 pub mod Heard
 pub mod Listening
+pub mod Hears
 pub mod Pieces

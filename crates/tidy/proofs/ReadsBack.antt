@@ -1,7 +1,7 @@
 -- Reading the rebuilt block of a clean map gives the map back, so the rebuild is one to one. Assumes nothing.
 use mathlib.Core.Path.{_≡_, sym, _∙_, ap, subst}
 use mathlib.Core.Bool.{Bool, true, false, false≢true}
-use mathlib.Core.List.{List, [], _∷_, _++_, append-assoc, foldl-append}
+use mathlib.Core.List.{List, [], _∷_, _++_, append-assoc}
 use mathlib.Core.Option.{Option, none, some}
 use Prim.Native.Nat.{ℕ, _+_, _≤_}
 use native.Mathlib.Nat.{zero-add}
@@ -9,7 +9,7 @@ use native.Mathlib.Omega.{arith}
 use lib.ListN.{length, length-append}
 use Rattle.leaves.specs.Choice.{and-left, and-right}
 use Rattle.leaves.proofs.TrimTexts.{trim-line, first-solid}
-use Rattle.reader.specs.Reading.{Rules, Reading, step, fed, begun}
+use Rattle.reader.specs.Reading.{Rules, Reading, fed, begun}
 use Rattle.maps.specs.Said.{Pair, Said}
 use Rattle.readings.specs.Heard.{Hearing}
 use Rattle.readings.specs.Listening.{Listening, silent, listening, said}
@@ -61,22 +61,10 @@ heard-gives R rooms status b m e z few =
       says = ap (λ (l : Listening). l .hearing .said) (t .told);
     }
 
--- octets in two pieces
-fed-append : (R : Rules) (r : Reading) (xs ys : List ℕ) → fed R r (xs ++ ys) ≡ fed R (fed R r xs) ys
-unfolding fed
-fed-append R r xs ys = foldl-append (step R) r xs ys
-
-module _ (R : Rules) (rooms : R .limit ≤ R .room) where
-  -- "the rebuilt block, if it fits, reads back to the same, quirks on or off"
-  pub back : (m : Said) → clean m ≡ true → length (m .pairs) ≤ 256 → length (rebuilt m) ≤ R .limit
-      → Gives (rebuilt m) m (fed R (begun (expects (m .status))) (rebuilt m))
-  back m c h z = heard-gives R rooms (expects (m .status)) (rebuilt m) m (rebuilt-heard (R .quirks) m c) z h
-
-  -- the same, the block cut anywhere
-  pub back-cut : (m : Said) → clean m ≡ true → length (m .pairs) ≤ 256 → length (rebuilt m) ≤ R .limit
-      → (xs ys : List ℕ) → xs ++ ys ≡ rebuilt m → Gives (rebuilt m) m (fed R (fed R (begun (expects (m .status))) xs) ys)
-  back-cut m c h z xs ys e =
-      rw (← fed-append R (begun (expects (m .status))) xs ys, e) (back m c h z)
+-- "the rebuilt block, if it fits, reads back to the same, quirks on or off"
+pub back : (R : Rules) → R .limit ≤ R .room → (m : Said) → clean m ≡ true → length (m .pairs) ≤ 256 → length (rebuilt m) ≤ R .limit
+    → Gives (rebuilt m) m (fed R (begun (expects (m .status))) (rebuilt m))
+back R rooms m c h z = heard-gives R rooms (expects (m .status)) (rebuilt m) m (rebuilt-heard (R .quirks) m c) z h
 
 pub rebuilt-back : (m m′ : Said) → clean m ≡ true → clean m′ ≡ true → expects (m .status) ≡ expects (m′ .status) → rebuilt m ≡ rebuilt m′ → m ≡ m′
 rebuilt-back m m′ c c′ s e =
