@@ -1,0 +1,240 @@
+-- What the page says of a walk by a walker that goes on, by what the walk does. Assumes nothing.
+use mathlib.Core.Path.{_≡_, refl, sym, ap, _∙_, subst}
+use mathlib.Core.Bool.{Bool, true, false, false≢true}
+use mathlib.Core.List.{List, [], _∷_, _++_}
+use Prim.Native.Nat.{ℕ, zero, suc, _+_, _-_, _≤_, _<_, min, max}
+use native.Mathlib.Omega.{arith}
+use borrow.Author.Tests.{eqb-true, eqb-false, ltb-true, ltb-false}
+use lib.Dec.{eqb, ltb}
+use lib.ListN.{length, getD, take, drop, length-take, length-drop, take-append-drop}
+use lib.Seq.{take-take, getD-take}
+use Rattle.leaves.specs.Choice.{if_then_else_, if-true, if-false}
+use Rattle.leaves.specs.Refusals.{number, refusal}
+use Rattle.leaves.specs.declared.refusals.Refusal.{Refusal}
+use Rattle.maps.specs.Maps.{Given}
+use Rattle.maps.specs.declared.HeaderMap.{HeaderMap}
+use Rattle.maps.specs.Good.{checkedReading}
+use Rattle.maps.specs.declared.Checked.the-variants.{Fine}
+use Rattle.reader.specs.Calls.{feeding}
+use Rattle.reader.specs.declared.Fed.{Fed}
+use Rattle.walker.specs.Walk.{furthest, trailer, keeps, walked, onward, stopsAt, stopsInside, fresh, allowed, common, trailerStage, trailerEnded, trailerWalked}
+use Rattle.walker.specs.Answers.{told}
+use Rattle.walker.specs.declared.Stage.{Stage}
+use Rattle.walker.specs.declared.Stage.the-variants.{Between, Header, Stopped}
+use Rattle.walker.specs.declared.Step.{Step}
+use Rattle.walker.specs.declared.Step.the-variants.{More, Record, Body, End, Refused}
+use Rattle.walker.specs.declared.Walker.{Walker}
+use Rattle.walker.specs.declared.Walked.{Walked}
+use Rattle.walker.proofs.WalkLaws.{common-within, trailer-whole, trailer-differs, trailer-far, trailer-more, trailer-walks}
+use Rattle.records.specs.Walks.{answer, heading, wanted, Goes, Leaves, InHeader, Differs, AfterWalk}
+use Rattle.records.proofs.Feeds.{fed-nothing}
+use Rattle.records.proofs.Reach.{allowed-is, takes-allowed}
+use Rattle.records.proofs.TrailerOctets.{common-same, common-other}
+
+-- an answer that is no number from 9 on
+abbrev pub Plain : ℕ → Type 0
+Plain n = (j : ℕ) → 8 < j → j < 14 → n ≡ j → ⊥
+
+pub plain-header : (g : Given Walked) (f : Given Fed) → Plain (answer g) → InHeader g f
+plain-header g f h =
+    record {
+      nine = λ e. absurd (h 9 (omega arith) (omega arith) e);
+      ten = λ e. absurd (h 10 (omega arith) (omega arith) e);
+      thirteen = λ e. absurd (h 13 (omega arith) (omega arith) e);
+    }
+
+-- where 13 is met and 11, and what stops a walker
+pub record Numbers (w : Walker) (p : List ℕ) (r : Walked) : Type 0 where
+  pub stops : (e : Refusal) → r .step ≡ Refused e → r .walker .stage ≡ Stopped e
+  pub near : r .taken ≤ furthest - w .position
+  pub thirteen : told (r .step) ≡ 13 → (w .position + r .taken ≡ max (w .position) furthest) × (r .taken < length p)
+  pub eleven : told (r .step) ≡ 11 → Differs p (wanted (w .stage)) (r .taken)
+
+pub plain-numbers : (w : Walker) (p : List ℕ) (r : Walked) → ((e : Refusal) → r .step ≡ Refused e → r .walker .stage ≡ Stopped e) → r .taken ≤ furthest - w .position
+    → Plain (told (r .step)) → Numbers w p r
+plain-numbers w p r stops near h =
+    record {
+      stops = stops;
+      near = near;
+      thirteen = λ e. absurd (h 13 (omega arith) (omega arith) e);
+      eleven = λ e. absurd (h 11 (omega arith) (omega arith) e);
+    }
+
+-- two stages are not one
+pub apart : {A : Type 0} {t : Stage} → t ≡ Header → t ≡ Between → A
+apart e f = let z : _≡_ {A = ℕ} 0 1 = cc in absurd (omega arith)
+
+module _ (w : Walker) (b s p : List ℕ) (r : Walked) (same : r .walker .map ≡ w .map) where
+  leaves : Leaves (w .map) b s (keeps b s r)
+  leaves = record { map = same; block = refl; store = refl }
+
+  -- a call that leaves the map and the loans
+  pub kept : Numbers w p r → (Goes w b s → 0 < length p → furthest ≤ w .position → told (r .step) ≡ 13)
+      → (w .stage ≡ Header → InHeader (keeps b s r) (feeding (w .map) b s (take (r .taken) p)))
+      → (w .stage ≡ Between → w .position < furthest → InHeader (keeps b s r) (feeding (fresh (w .map)) b s (take (r .taken) p)))
+      → AfterWalk w b s p (keeps b s r)
+  kept n first inside begins =
+      record {
+        block = refl;
+        store = refl;
+        outside = λ _. leaves;
+        empty = λ _. leaves;
+        too-far = λ _ _. leaves;
+        inside = inside;
+        begins = begins;
+        stops = n .stops;
+        near = n .near;
+        first = first;
+        thirteen = λ _. n .thirteen;
+        eleven = λ _. n .eleven;
+      }
+
+  -- one whose answer is no number from 9 on
+  pub quiet : r .taken ≤ furthest - w .position → (Goes w b s → 0 < length p → furthest ≤ w .position → ⊥) → Plain (told (r .step))
+      → ((e : Refusal) → r .step ≡ Refused e → r .walker .stage ≡ Stopped e) → AfterWalk w b s p (keeps b s r)
+  quiet near first h stops =
+      kept (plain-numbers w p r stops near h) (λ g i f. absurd (first g i f)) (λ _. plain-header _ _ h) (λ _ _. plain-header _ _ h)
+
+-- an octet that is too far, where the walker stands
+module _ (w : Walker) (b s : List ℕ) (x : ℕ) (xs : List ℕ) (far : furthest ≤ w .position) where
+  none-taken : (r : Walked) → r .taken ≡ 0 → r .step ≡ Refused (refusal 13) → r .walker .stage ≡ Stopped (refusal 13) → Numbers w (x ∷ xs) r
+  none-taken r z e t =
+      record {
+        stops = λ y f. let i : refusal 13 ≡ y = cc in t ∙ ap Stopped i;
+        near = omega arith;
+        thirteen = λ _. (omega arith, omega arith);
+        eleven = λ f. let i : told (Refused (refusal 13)) ≡ 11 = sym (ap told e) ∙ f in absurd (omega arith);
+      }
+
+  pub far-outside : (w .stage ≡ Header → ⊥) → AfterWalk w b s (x ∷ xs) (keeps b s (stopsAt w (refusal 13)))
+  far-outside no-header = kept w b s (x ∷ xs) _ refl (none-taken _ refl refl refl) (λ _ _ _. refl) (λ h. absurd (no-header h)) (λ _ i. absurd (omega arith))
+
+  pub far-inside : w .stage ≡ Header → Fine ≡ checkedReading (w .map) b s → AfterWalk w b s (x ∷ xs) (keeps b s (stopsInside w (refusal 13)))
+  far-inside t fine =
+      let e = fed-nothing (w .map) b s fine in
+      let n = none-taken (stopsInside w (refusal 13)) refl refl refl in
+      record {
+        block = refl;
+        store = refl;
+        outside = λ h. absurd (false≢true (sym h ∙ ap heading t));
+        empty = λ h. absurd (omega arith);
+        too-far = λ h _. apart t h;
+        inside =
+            λ _.
+            record {
+              nine = λ f. absurd (omega arith);
+              ten = λ f. absurd (omega arith);
+              thirteen = λ _. record { map = sym (e .map); block = sym (e .block); store = sym (e .store) };
+            };
+        begins = λ h _. apart t h;
+        stops = n .stops;
+        near = n .near;
+        first = λ _ _ _. refl;
+        thirteen = λ _. n .thirteen;
+        eleven = λ _. n .eleven;
+      }
+
+-- what two texts have in common
+common-takes : (x y : List ℕ) → take (common x y) x ≡ take (common x y) y
+unfolding common
+common-takes [] y = refl
+common-takes (x ∷ xs) [] = refl
+common-takes (x ∷ xs) (y ∷ ys) = choose (eqb x y) refl (common-takes xs ys)
+  where
+    choose : (t : Bool) → eqb x y ≡ t → take (common xs ys) xs ≡ take (common xs ys) ys
+        → take (if eqb x y then suc (common xs ys) else 0) (x ∷ xs) ≡ take (if eqb x y then suc (common xs ys) else 0) (y ∷ ys)
+    choose true e ih = let z : x ≡ y = eqb-true x y e in rw (if-true (suc (common xs ys)) 0 e, z, ih)
+    choose false e ih = rw (if-false (suc (common xs ys)) 0 e)
+
+common-stops : (x y : List ℕ) → common x y < length x → common x y < length y → getD x (common x y) 0 ≡ getD y (common x y) 0 → ⊥
+common-stops [] y h i e = omega arith
+common-stops (x ∷ xs) [] h i e = omega arith
+common-stops (x ∷ xs) (y ∷ ys) h i e = choose (eqb x y) refl (common-stops xs ys)
+  where
+    choose : (t : Bool) → eqb x y ≡ t → (common xs ys < length xs → common xs ys < length ys → getD xs (common xs ys) 0 ≡ getD ys (common xs ys) 0 → ⊥) → ⊥
+    choose true f ih =
+        let c = common-same x y xs ys (eqb-true x y f) in
+        ih (omega (arith, c, h)) (omega (arith, c, i)) (rw c at e)
+    choose false f ih = let c = common-other x y xs ys (eqb-false x y f) in eqb-false x y f (rw c at e)
+
+-- a trailer
+module _ (w : Walker) (b s p : List ℕ) (past : ℕ) (low : past < 4) (outside : heading (w .stage) ≡ false) (wants : wanted (w .stage) ≡ drop past trailer) where
+  abbrev k : ℕ
+  k = allowed (w .position) (length p)
+
+  abbrev same : ℕ
+  same = common (drop past trailer) (take k p)
+
+  abbrev T : Walked → Type 0
+  T r = AfterWalk w b s p (keeps b s r)
+
+  k-is : k ≡ min (length p) (furthest - w .position)
+  k-is = allowed-is (w .position) (length p)
+
+  within : same ≤ k
+  within = omega (arith, common-within (drop past trailer) (take k p) .1, takes-allowed (w .position) p)
+
+  no-header : w .stage ≡ Header → ⊥
+  no-header e = false≢true (sym outside ∙ ap heading e)
+
+  no-between : w .stage ≡ Between → ⊥
+  no-between e = false≢true (sym outside ∙ ap heading e)
+
+  goes-on : (t : Stage) → (0 < length p → furthest ≤ w .position → ⊥) → T (onward w t same More)
+  goes-on t near =
+      quiet w b s p _ refl (omega (arith, within, k-is)) (λ _. near) (λ j h i e. omega arith) (λ e f. let z : _≡_ {A = ℕ} 0 1 = cc in absurd (omega arith))
+
+  -- a number that stops the walker in the trailer
+  stopping : (x : Refusal) → (furthest ≤ w .position → number x ≡ 13) → Numbers w p (onward w (Stopped x) same (Refused x)) → T (onward w (Stopped x) same (Refused x))
+  stopping x first n = kept w b s p _ refl n (λ _ _ f. first f) (λ h. absurd (no-header h)) (λ h _. absurd (no-between h))
+
+  differs : (past + same ≡ 4 → ⊥) → same < k → T (onward w (Stopped (refusal 11)) same (Refused (refusal 11)))
+  differs d i =
+      stopping (refusal 11) (λ f. absurd (omega (arith, k-is)))
+      (record {
+        stops = λ y f. let z : refusal 11 ≡ y = cc in ap Stopped z;
+        near = omega (arith, within, k-is);
+        thirteen = λ e. absurd (omega arith);
+        eleven =
+            λ _.
+            subst (λ (l : List ℕ). Differs p l same) (sym wants)
+            (record {
+              here = omega (arith, k-is);
+              wanting = shorter;
+              same = sym (common-takes (drop past trailer) (take k p) ∙ take-take same k p within);
+              other =
+                  λ e.
+                  common-stops (drop past trailer) (take k p) shorter (omega (arith, takes-allowed (w .position) p)) (sym e ∙ sym (getD-take k p same 0 i));
+            });
+      })
+    where
+      shorter : same < length (drop past trailer)
+      shorter = omega (arith, common-within (drop past trailer) (take k p) .0, length-drop past trailer, d)
+
+  too-far : k ≤ same → k < length p → T (onward w (Stopped (refusal 13)) same (Refused (refusal 13)))
+  too-far i j =
+      stopping (refusal 13) (λ _. refl)
+      (record {
+        stops = λ y f. let z : refusal 13 ≡ y = cc in ap Stopped z;
+        near = omega (arith, within, k-is);
+        thirteen = λ _. (omega (arith, within, k-is), omega (arith, within));
+        eleven = λ e. absurd (omega arith);
+      })
+
+  pub trailer-after : T (trailerWalked w past p)
+  trailer-after = subst T (trailer-walks w past p k refl same refl) (full (eqb (past + same) 4) refl)
+    where
+      near-end : (past + same ≡ 4 → ⊥) → k ≤ same → (t : Bool) → ltb k (length p) ≡ t → T (trailerEnded w past k (length p) same)
+      near-end d u true f = let v = ltb-true k (length p) f in subst T (trailer-far w past k (length p) same d u v) (too-far u v)
+      near-end d u false f =
+          let v = ltb-false k (length p) f in
+          subst T (trailer-more w past k (length p) same d u v _ refl) (goes-on (trailerStage (past + same)) (λ h i. omega (arith, k-is)))
+
+      part : (past + same ≡ 4 → ⊥) → (t : Bool) → ltb same k ≡ t → T (trailerEnded w past k (length p) same)
+      part d true f = let u = ltb-true same k f in subst T (trailer-differs w past k (length p) same d u) (differs d u)
+      part d false f = near-end d (ltb-false same k f) (ltb k (length p)) refl
+
+      full : (t : Bool) → eqb (past + same) 4 ≡ t → T (trailerEnded w past k (length p) same)
+      full true f =
+          let d = eqb-true (past + same) 4 f in subst T (trailer-whole w past k (length p) same d) (goes-on Between (λ h i. omega (arith, within, k-is, d, low)))
+      full false f = part (eqb-false (past + same) 4 f) (ltb same k) refl
