@@ -1,15 +1,12 @@
 -- What a feed takes and leaves, of a map and loans that its first checks pass. Assumes nothing.
 use mathlib.Core.Path.{_≡_, refl, sym, ap, _∙_, subst}
-use mathlib.Core.Bool.{Bool, true, false, false≢true}
+use mathlib.Core.Bool.{false}
 use mathlib.Core.List.{List, [], _∷_, _++_}
-use Prim.Native.Nat.{ℕ, zero, suc, _+_, _-_, _≤_, _<_, min}
+use Prim.Native.Nat.{ℕ, zero, suc, _-_, _≤_, _<_}
 use native.Mathlib.Omega.{arith}
-use lib.ListN.{length, take, drop, take-append-drop, length-take, length-drop, drop-of-length-le}
-use lib.Seq.{length-take-le, take-all}
+use lib.ListN.{length, take, drop, take-append-drop, length-take}
+use lib.Seq.{length-take-le}
 use Rattle.leaves.specs.Paste.{lay}
-use Rattle.leaves.specs.Refusals.{number}
-use Rattle.leaves.specs.declared.refusals.Refusal.{Refusal}
-use Rattle.leaves.proofs.LayLaws.{lay-rest}
 use Rattle.maps.specs.Good.{Ready, checkedReading, checkedDone}
 use Rattle.maps.specs.Maps.{empty, Given}
 use Rattle.maps.specs.declared.Field.{Field}
@@ -25,7 +22,7 @@ use Rattle.reader.specs.declared.Fed.{Fed}
 use Rattle.reader.proofs.FedLaws.{fed-none, fed-more, taken-within}
 use Rattle.walker.specs.Walk.{emptied}
 use Rattle.readings.proofs.Kept.{Later, fed-later, sound-of, good-of, lent-of}
-use Rattle.readings.proofs.Cut.{fed-goes, cut-more, cut-ended}
+use Rattle.readings.proofs.Cut.{fed-goes, cut-ended}
 use Rattle.records.proofs.Growth.{Reaches, fed-reaches}
 
 -- what a list has of itself is laid over it without a change

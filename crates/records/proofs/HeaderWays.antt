@@ -2,7 +2,7 @@
 use mathlib.Core.Path.{_≡_, refl, sym, ap, _∙_, subst}
 use mathlib.Core.Bool.{Bool, true, false, false≢true}
 use mathlib.Core.List.{List, _∷_}
-use Prim.Native.Nat.{ℕ, _+_, _-_, _≤_, _<_, min, max}
+use Prim.Native.Nat.{ℕ, _+_, _-_, _≤_, _<_, min}
 use native.Mathlib.Omega.{arith}
 use borrow.Author.Tests.{ltb-true, ltb-false}
 use lib.Dec.{ltb}
@@ -17,13 +17,13 @@ use Rattle.maps.specs.Maps.{Given}
 use Rattle.maps.specs.Said.{saying}
 use Rattle.maps.specs.declared.HeaderMap.{HeaderMap}
 use Rattle.maps.specs.declared.Checked.the-variants.{Fine}
-use Rattle.reader.specs.Reading.{Rules, Reading, fed}
+use Rattle.reader.specs.Reading.{Reading, fed}
 use Rattle.reader.specs.Calls.{rulesOf, readingOf, mapOf, feeding}
 use Rattle.reader.specs.declared.Answer.{Answer}
 use Rattle.reader.specs.declared.Answer.the-variants.{More, Blank, Input, Refused as FedRefused}
 use Rattle.reader.specs.declared.Fed.{Fed}
 use Rattle.readings.proofs.Cut.{fed-goes}
-use Rattle.openings.specs.Opening.{opened, opening}
+use Rattle.openings.specs.Opening.{opened}
 use Rattle.openings.specs.declared.Opening.{Opening}
 use Rattle.openings.specs.declared.Opening.the-variants.{Record as Opens, Refused as Shut}
 use Rattle.openings.proofs.OpenLaws.{opening-goes}
@@ -33,10 +33,9 @@ use Rattle.walker.specs.declared.Stage.the-variants.{Between, Header, Stopped}
 use Rattle.walker.specs.declared.Step.the-variants.{Refused}
 use Rattle.walker.specs.declared.Walker.{Walker}
 use Rattle.walker.specs.declared.Walked.{Walked}
-use Rattle.walker.proofs.WalkLaws.{more-far, more-on}
+use Rattle.walker.proofs.WalkLaws.{allowed-is, more-far, more-on, header-read-is}
 use Rattle.records.specs.Walks.{heading, Leaves, InHeader, AfterWalk}
-use Rattle.records.proofs.Equations.{header-read-is}
-use Rattle.records.proofs.Reach.{allowed-is, takes-allowed}
+use Rattle.records.proofs.Reach.{takes-allowed}
 use Rattle.records.proofs.Feeds.{within, later, reached, done, taken-enough}
 use Rattle.records.proofs.HeaderOctets.{opened-low}
 use Rattle.records.proofs.Ways.{Plain, plain-header, Numbers, plain-numbers, apart}

@@ -1,13 +1,12 @@
 -- The records of a file stand in their order. Assumes nothing.
-use mathlib.Core.Path.{_≡_, refl}
-use mathlib.Core.Bool.{Bool, true, false}
+use mathlib.Core.Path.{_≡_}
+use mathlib.Core.Bool.{true}
 use mathlib.Core.List.{List, [], _∷_}
 use Prim.Native.Nat.{ℕ, zero, suc, _+_, _≤_, _<_}
 use native.Mathlib.Omega.{arith}
 use lib.Dec.{eqb}
 use lib.ListN.{length}
 use Rattle.leaves.specs.Choice.{by-if}
-use Rattle.leaves.specs.declared.refusals.Refusal.{Refusal}
 use Rattle.readings.specs.Listening.{said}
 use Rattle.reader.specs.Reading.{Rules, Reading, step}
 use Rattle.reader.specs.Reading.{begun as begins}

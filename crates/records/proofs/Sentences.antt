@@ -2,59 +2,31 @@
 use mathlib.Core.Path.{_≡_, refl, sym, ap, _∙_, subst}
 use mathlib.Core.Bool.{Bool, true, false, false≢true}
 use mathlib.Core.List.{List, [], _∷_}
-use Prim.Native.Nat.{ℕ, _+_, _-_, _≤_, _<_, min}
+use Prim.Native.Nat.{ℕ, _≤_, _<_, min}
 use native.Mathlib.Omega.{arith}
-use borrow.Author.Tests.{eqb-true, eqb-false, ltb-true, ltb-false}
-use lib.Dec.{eqb, ltb}
+use borrow.Author.Tests.{eqb-true, eqb-false}
+use lib.Dec.{eqb}
 use lib.ListN.{length}
-use Rattle.leaves.specs.Refusals.{number, refusal}
+use Rattle.leaves.specs.Refusals.{refusal}
 use Rattle.leaves.specs.declared.refusals.Refusal.{Refusal}
-use Rattle.leaves.specs.declared.refusals.Refusal.the-variants.{BadMap, ShortLoan, WrongPhase}
-use Rattle.maps.specs.Good.{good, lent, checked}
 use Rattle.maps.specs.Maps.{Given}
-use Rattle.maps.specs.declared.HeaderMap.{HeaderMap}
-use Rattle.maps.specs.declared.Checked.the-variants.{Fine, Refused as Bad}
-use Rattle.maps.proofs.GoodLaws.{not-refused, checked-bad, checked-short, checked-wrong, checked-fine}
-use Rattle.openings.specs.Opening.{longest}
-use Rattle.walker.specs.Walk.{furthest, keeps, walked, stands, stopsAt, readyAt, fresh, allowed, bodyWalked, restWalked, trailerWalked, betweenWalked, headerWalked, stageWalked, stageEnded, emptied, resting, checkedWalker, walking, ending}
+use Rattle.maps.specs.declared.Checked.the-variants.{Refused as Bad}
+use Rattle.maps.proofs.GoodLaws.{not-refused}
+use Rattle.walker.specs.Walk.{furthest, keeps, stands, stopsAt, fresh, allowed, bodyWalked, restWalked, betweenWalked, headerWalked, stageWalked, stageEnded, resting, checkedWalker, walking, ending}
 use Rattle.walker.specs.Answers.{told}
 use Rattle.walker.specs.declared.Stage.{Stage}
 use Rattle.walker.specs.declared.Stage.the-variants.{Between, Header, Body, Cr, Lf, LastCr, LastLf, Ended, Stopped}
 use Rattle.walker.specs.declared.Resting.the-variants.{Stopped as Stays, Ended as Over, Walks}
 use Rattle.walker.specs.declared.Step.{Step}
-use Rattle.walker.specs.declared.Step.the-variants.{More, Body as Part, End, Refused}
+use Rattle.walker.specs.declared.Step.the-variants.{More, End, Refused}
 use Rattle.walker.specs.declared.Walker.{Walker}
 use Rattle.walker.specs.declared.Walked.{Walked}
-use Rattle.walker.proofs.WalkLaws.{rest-over, rest-fine, body-far, body-part, rest-none, rest-some, between-far, between-on, header-far, header-on, walk-checked, walk-stopped, on-empty, on-stage, walk-rests, walk-over, end-rests, end-over, end-checked, end-stopped}
-use Rattle.records.specs.Walks.{answer, heading, wanted, Goes, Leaves, AfterWalk, AfterEnd, Repeats, BodyFirst}
-use Rattle.records.proofs.Equations.{is-given}
-use Rattle.records.proofs.Reach.{allowed-is, allowed-none}
-use Rattle.records.proofs.Able.{Able, Standing, able, refused, ended, stopped, standing, able-of, fine-of, fresh-fine, header-fine}
+use Rattle.walker.proofs.WalkLaws.{allowed-is, is-given, checks-low, body-far, body-part, rest-none, rest-some, between-far, between-on, header-far, header-on, walk-checked, walk-stopped, on-empty, on-stage, walk-rests, walk-over, end-rests, end-over, end-checked, end-stopped}
+use Rattle.records.specs.Walks.{heading, wanted, Goes, Leaves, AfterWalk, AfterEnd, Repeats, BodyFirst}
+use Rattle.records.proofs.Reach.{allowed-none}
+use Rattle.records.proofs.Able.{Able, Standing, able, refused, ended, stopped, standing, fine-of, fresh-fine, header-fine}
 use Rattle.records.proofs.Ways.{apart, quiet, far-outside, far-inside, trailer-after}
 use Rattle.records.proofs.HeaderWays.{read-after, goes-on, begins}
-
--- the first checks give 2, 3 or 7
-checked-low : (ready : Bool) (m : HeaderMap) (b s : ℕ) (x : Refusal) → Bad x ≡ checked ready m b s → number x < 8
-checked-low ready m b s x e = by (good m) refl (lent m b s) refl ready refl
-  where
-    same : (y : Refusal) → Bad y ≡ checked ready m b s → number y < 8 → number x < 8
-    same y f h = let z : y ≡ x = cc in omega (arith, ap number z)
-
-    by : (g : Bool) → good m ≡ g → (l : Bool) → lent m b s ≡ l → (r : Bool) → ready ≡ r → number x < 8
-    by false d l f r h = same BadMap (checked-bad ready m b s d) (omega arith)
-    by true d false f r h = same ShortLoan (checked-short ready m b s d f) (omega arith)
-    by true d true f false h = same WrongPhase (checked-wrong ready m b s d f h) (omega arith)
-    by true d true f true h = let g = checked-fine ready m b s d f h in let z : _≡_ {A = ℕ} 0 1 = cc in absurd (omega arith)
-
-checks-low : (w : Walker) (b s : ℕ) (x : Refusal) → Bad x ≡ checkedWalker w b s → number x < 8
-checks-low w b s x e = by (ltb longest (w .rest)) refl
-  where
-    by : (t : Bool) → ltb longest (w .rest) ≡ t → number x < 8
-    by true f =
-        let h = rest-over w b s (ltb-true longest (w .rest) f) in
-        let z : BadMap ≡ x = cc in
-        omega (arith, ap number z)
-    by false f = checked-low _ (w .map) b s x (e ∙ sym (rest-fine w b s (ltb-false longest (w .rest) f) _ refl _ refl))
 
 -- a walk by a walker that goes on
 module _ (w : Walker) (b s : List ℕ) where

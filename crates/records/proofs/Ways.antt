@@ -1,35 +1,31 @@
 -- What the page says of a walk by a walker that goes on, by what the walk does. Assumes nothing.
 use mathlib.Core.Path.{_≡_, refl, sym, ap, _∙_, subst}
 use mathlib.Core.Bool.{Bool, true, false, false≢true}
-use mathlib.Core.List.{List, [], _∷_, _++_}
-use Prim.Native.Nat.{ℕ, zero, suc, _+_, _-_, _≤_, _<_, min, max}
+use mathlib.Core.List.{List, _∷_}
+use Prim.Native.Nat.{ℕ, _+_, _-_, _≤_, _<_, min, max}
 use native.Mathlib.Omega.{arith}
 use borrow.Author.Tests.{eqb-true, eqb-false, ltb-true, ltb-false}
 use lib.Dec.{eqb, ltb}
-use lib.ListN.{length, getD, take, drop, length-take, length-drop, take-append-drop}
+use lib.ListN.{length, take, drop, length-drop}
 use lib.Seq.{take-take, getD-take}
-use Rattle.leaves.specs.Choice.{if_then_else_, if-true, if-false}
 use Rattle.leaves.specs.Refusals.{number, refusal}
 use Rattle.leaves.specs.declared.refusals.Refusal.{Refusal}
 use Rattle.maps.specs.Maps.{Given}
-use Rattle.maps.specs.declared.HeaderMap.{HeaderMap}
 use Rattle.maps.specs.Good.{checkedReading}
 use Rattle.maps.specs.declared.Checked.the-variants.{Fine}
 use Rattle.reader.specs.Calls.{feeding}
 use Rattle.reader.specs.declared.Fed.{Fed}
-use Rattle.walker.specs.Walk.{furthest, trailer, keeps, walked, onward, stopsAt, stopsInside, fresh, allowed, common, trailerStage, trailerEnded, trailerWalked}
+use Rattle.walker.specs.Walk.{furthest, trailer, keeps, onward, stopsAt, stopsInside, fresh, allowed, common, trailerStage, trailerEnded, trailerWalked}
 use Rattle.walker.specs.Answers.{told}
 use Rattle.walker.specs.declared.Stage.{Stage}
 use Rattle.walker.specs.declared.Stage.the-variants.{Between, Header, Stopped}
-use Rattle.walker.specs.declared.Step.{Step}
-use Rattle.walker.specs.declared.Step.the-variants.{More, Record, Body, End, Refused}
+use Rattle.walker.specs.declared.Step.the-variants.{More, Refused}
 use Rattle.walker.specs.declared.Walker.{Walker}
 use Rattle.walker.specs.declared.Walked.{Walked}
-use Rattle.walker.proofs.WalkLaws.{common-within, trailer-whole, trailer-differs, trailer-far, trailer-more, trailer-walks}
+use Rattle.walker.proofs.WalkLaws.{allowed-is, common-takes, common-stops, common-within, trailer-whole, trailer-differs, trailer-far, trailer-more, trailer-walks}
 use Rattle.records.specs.Walks.{answer, heading, wanted, Goes, Leaves, InHeader, Differs, AfterWalk}
 use Rattle.records.proofs.Feeds.{fed-nothing}
-use Rattle.records.proofs.Reach.{allowed-is, takes-allowed}
-use Rattle.records.proofs.TrailerOctets.{common-same, common-other}
+use Rattle.records.proofs.Reach.{takes-allowed}
 
 -- an answer that is no number from 9 on
 abbrev pub Plain : ℕ → Type 0
@@ -133,29 +129,6 @@ module _ (w : Walker) (b s : List ℕ) (x : ℕ) (xs : List ℕ) (far : furthest
         thirteen = λ _. n .thirteen;
         eleven = λ _. n .eleven;
       }
-
--- what two texts have in common
-common-takes : (x y : List ℕ) → take (common x y) x ≡ take (common x y) y
-unfolding common
-common-takes [] y = refl
-common-takes (x ∷ xs) [] = refl
-common-takes (x ∷ xs) (y ∷ ys) = choose (eqb x y) refl (common-takes xs ys)
-  where
-    choose : (t : Bool) → eqb x y ≡ t → take (common xs ys) xs ≡ take (common xs ys) ys
-        → take (if eqb x y then suc (common xs ys) else 0) (x ∷ xs) ≡ take (if eqb x y then suc (common xs ys) else 0) (y ∷ ys)
-    choose true e ih = let z : x ≡ y = eqb-true x y e in rw (if-true (suc (common xs ys)) 0 e, z, ih)
-    choose false e ih = rw (if-false (suc (common xs ys)) 0 e)
-
-common-stops : (x y : List ℕ) → common x y < length x → common x y < length y → getD x (common x y) 0 ≡ getD y (common x y) 0 → ⊥
-common-stops [] y h i e = omega arith
-common-stops (x ∷ xs) [] h i e = omega arith
-common-stops (x ∷ xs) (y ∷ ys) h i e = choose (eqb x y) refl (common-stops xs ys)
-  where
-    choose : (t : Bool) → eqb x y ≡ t → (common xs ys < length xs → common xs ys < length ys → getD xs (common xs ys) 0 ≡ getD ys (common xs ys) 0 → ⊥) → ⊥
-    choose true f ih =
-        let c = common-same x y xs ys (eqb-true x y f) in
-        ih (omega (arith, c, h)) (omega (arith, c, i)) (rw c at e)
-    choose false f ih = let c = common-other x y xs ys (eqb-false x y f) in eqb-false x y f (rw c at e)
 
 -- a trailer
 module _ (w : Walker) (b s p : List ℕ) (past : ℕ) (low : past < 4) (outside : heading (w .stage) ≡ false) (wants : wanted (w .stage) ≡ drop past trailer) where
