@@ -1,11 +1,9 @@
 -- What the page says of a walk that reads octets of a header. Assumes nothing.
 use mathlib.Core.Path.{_≡_, refl, sym, ap, _∙_, subst}
-use mathlib.Core.Bool.{Bool, true, false, false≢true}
+use mathlib.Core.Bool.{false≢true}
 use mathlib.Core.List.{List, _∷_}
 use Prim.Native.Nat.{ℕ, _+_, _-_, _≤_, _<_, min}
 use native.Mathlib.Omega.{arith}
-use borrow.Author.Tests.{ltb-true, ltb-false}
-use lib.Dec.{ltb}
 use lib.ListN.{length, take, drop}
 use lib.Seq.{take-take}
 use Rattle.leaves.specs.Paste.{lay}
@@ -33,7 +31,7 @@ use Rattle.walker.specs.declared.Stage.the-variants.{Between, Header, Stopped}
 use Rattle.walker.specs.declared.Step.the-variants.{Refused}
 use Rattle.walker.specs.declared.Walker.{Walker}
 use Rattle.walker.specs.declared.Walked.{Walked}
-use Rattle.walker.proofs.WalkLaws.{allowed-is, more-far, more-on, header-read-is}
+use Rattle.walker.proofs.WalkLaws.{allowed-is, header-read-is, by-more}
 use Rattle.records.specs.Walks.{heading, Leaves, InHeader, AfterWalk}
 use Rattle.records.proofs.Reach.{takes-allowed}
 use Rattle.records.proofs.Feeds.{within, later, reached, done, taken-enough}
@@ -105,32 +103,27 @@ module _ (w : Walker) (m : HeaderMap) (start : ℕ) (b s p : List ℕ) (fine : F
   far = walked (emptied (mapOf m Q More)) (w .position + taken) (w .rest) (Stopped (refusal 13)) start taken (Refused (refusal 13))
 
   more-reads : Q .answer ≡ More → T (headerMore (mapOf m Q More) (w .position + taken) (w .rest) start taken k (length p))
-  more-reads e = choose (ltb k (length p)) refl
-    where
-      choose : (t : Bool) → ltb k (length p) ≡ t → T (headerMore (mapOf m Q More) (w .position + taken) (w .rest) start taken k (length p))
-      choose true i =
-          let d = ltb-true k (length p) i in
-          let all : taken ≡ k = omega (arith, reached m b s fine (take k p) More e, takes) in
-          subst T (more-far (mapOf m Q More) (w .position + taken) (w .rest) start taken k (length p) d _ refl)
-          (reads far refl
-          (record {
-            nine = λ f. absurd (omega arith);
-            ten = λ f. absurd (omega arith);
-            thirteen =
-                λ _.
-                subst (λ (f : Given Fed). Leaves (emptied (f .result .map)) (f .block) (f .store) (left far))
-                (sym (gave-is More e (ap (λ (n : ℕ). feeding m b s (take n (take k p))) all ∙ ap (feeding m b s) (take-take k k p (omega arith)))))
-                (record { map = refl; block = refl; store = refl });
-          })
-          (record {
-            stops = λ y f. let z : refusal 13 ≡ y = cc in ap Stopped z;
-            near = near;
-            thirteen = λ _. (omega (arith, all, k-is), omega (arith, all));
-            eleven = λ f. absurd (omega arith);
-          }))
-      choose false i =
-          subst T (more-on (mapOf m Q More) (w .position + taken) (w .rest) start taken k (length p) (ltb-false k (length p) i))
-          (plain _ refl (λ y f. let z : _≡_ {A = ℕ} 0 1 = cc in absurd (omega arith)) (λ j h i f. omega arith))
+  more-reads e =
+      by-more T w (mapOf m Q More) (w .position + taken) (w .rest) start taken k (length p)
+      (λ d.
+      let all : taken ≡ k = omega (arith, reached m b s fine (take k p) More e, takes) in
+      reads far refl
+      (record {
+        nine = λ f. absurd (omega arith);
+        ten = λ f. absurd (omega arith);
+        thirteen =
+            λ _.
+            subst (λ (f : Given Fed). Leaves (emptied (f .result .map)) (f .block) (f .store) (left far))
+            (sym (gave-is More e (ap (λ (n : ℕ). feeding m b s (take n (take k p))) all ∙ ap (feeding m b s) (take-take k k p (omega arith)))))
+            (record { map = refl; block = refl; store = refl });
+      })
+      (record {
+        stops = λ y f. let z : refusal 13 ≡ y = cc in ap Stopped z;
+        near = near;
+        thirteen = λ _. (omega (arith, all, k-is), omega (arith, all));
+        eleven = λ f. absurd (omega arith);
+      }))
+      (λ _. plain _ refl (λ y f. let z : _≡_ {A = ℕ} 0 1 = cc in absurd (omega arith)) (λ j h i f. omega arith))
 
   opened-reads : Q .answer ≡ Blank → (o : Opening) → opened (saying (mapOf m Q Blank) B S) ≡ o
       → T (openedAt (mapOf m Q Blank) (w .position + taken) (w .rest) start taken o)

@@ -1,18 +1,16 @@
 -- The page's sentences on a single call, in every stage. Assumes nothing.
 use mathlib.Core.Path.{_≡_, refl, sym, ap, _∙_, subst}
-use mathlib.Core.Bool.{Bool, true, false, false≢true}
+use mathlib.Core.Bool.{false, false≢true}
 use mathlib.Core.List.{List, [], _∷_}
-use Prim.Native.Nat.{ℕ, _≤_, _<_, min}
+use Prim.Native.Nat.{ℕ, _≤_, _<_}
 use native.Mathlib.Omega.{arith}
-use borrow.Author.Tests.{eqb-true, eqb-false}
-use lib.Dec.{eqb}
 use lib.ListN.{length}
 use Rattle.leaves.specs.Refusals.{refusal}
 use Rattle.leaves.specs.declared.refusals.Refusal.{Refusal}
 use Rattle.maps.specs.Maps.{Given}
 use Rattle.maps.specs.declared.Checked.the-variants.{Refused as Bad}
 use Rattle.maps.proofs.GoodLaws.{not-refused}
-use Rattle.walker.specs.Walk.{furthest, keeps, stands, stopsAt, fresh, allowed, bodyWalked, restWalked, betweenWalked, headerWalked, stageWalked, stageEnded, resting, checkedWalker, walking, ending}
+use Rattle.walker.specs.Walk.{furthest, keeps, stands, stopsAt, fresh, allowed, restWalked, betweenWalked, headerWalked, stageWalked, stageEnded, resting, checkedWalker, walking, ending}
 use Rattle.walker.specs.Answers.{told}
 use Rattle.walker.specs.declared.Stage.{Stage}
 use Rattle.walker.specs.declared.Stage.the-variants.{Between, Header, Body, Cr, Lf, LastCr, LastLf, Ended, Stopped}
@@ -21,7 +19,7 @@ use Rattle.walker.specs.declared.Step.{Step}
 use Rattle.walker.specs.declared.Step.the-variants.{More, End, Refused}
 use Rattle.walker.specs.declared.Walker.{Walker}
 use Rattle.walker.specs.declared.Walked.{Walked}
-use Rattle.walker.proofs.WalkLaws.{allowed-is, is-given, checks-low, body-far, body-part, rest-none, rest-some, between-far, between-on, header-far, header-on, walk-checked, walk-stopped, on-empty, on-stage, walk-rests, walk-over, end-rests, end-over, end-checked, end-stopped}
+use Rattle.walker.proofs.WalkLaws.{allowed-is, is-given, checks-low, by-body, by-rest, by-between, by-header, body-part, rest-some, walk-checked, walk-stopped, on-empty, on-stage, walk-rests, walk-over, end-rests, end-over, end-checked, end-stopped}
 use Rattle.records.specs.Walks.{heading, wanted, Goes, Leaves, AfterWalk, AfterEnd, Repeats, BodyFirst}
 use Rattle.records.proofs.Reach.{allowed-none}
 use Rattle.records.proofs.Able.{Able, Standing, able, refused, ended, stopped, standing, fine-of, fresh-fine, header-fine}
@@ -46,6 +44,9 @@ module _ (w : Walker) (b s : List ℕ) where
     abbrev p : List ℕ
     p = x ∷ xs
 
+    abbrev K : Walked → Type 0
+    K r = R p (keeps b s r)
+
     abbrev k : ℕ
     k = allowed (w .position) (length p)
 
@@ -56,44 +57,22 @@ module _ (w : Walker) (b s : List ℕ) where
     near z = omega (arith, z, allowed-is (w .position) (length p))
 
     between-after : w .stage ≡ Between → Able w b s → R p (betweenWalked w b s p)
-    between-after t a = choose (eqb k 0) refl
-      where
-        choose : (d : Bool) → eqb k 0 ≡ d → R p (betweenWalked w b s p)
-        choose true e =
-            let z = eqb-true k 0 e in
-            rw (between-far w b s p k refl z) (far-outside w b s x xs (far z) (λ h. let y : _≡_ {A = ℕ} 0 1 = cc in omega arith))
-        choose false e =
-            let z = eqb-false k 0 e in
-            rw (between-on w b s p k refl z (fresh (w .map)) refl) (begins w b s x xs _ (near z) t (read-after w (fresh (w .map)) (w .position) b s p (fresh-fine w b s t a)))
+    between-after t a =
+        by-between (R p) w b s p (λ z. far-outside w b s x xs (far z) (λ h. apart h t))
+        (λ z. begins w b s x xs _ (near z) t (read-after w (fresh (w .map)) (w .position) b s p (fresh-fine w b s t a)))
 
     header-after : w .stage ≡ Header → Able w b s → R p (headerWalked w b s p)
-    header-after t a = choose (eqb k 0) refl
-      where
-        choose : (d : Bool) → eqb k 0 ≡ d → R p (headerWalked w b s p)
-        choose true e = let z = eqb-true k 0 e in rw (header-far w b s p k refl z) (far-inside w b s x xs (far z) t (header-fine w b s t a))
-        choose false e =
-            let z = eqb-false k 0 e in
-            rw (header-on w b s p k refl z) (goes-on w b s x xs _ (near z) t (read-after w (w .map) (w .start) b s p (header-fine w b s t a)))
-
-    body-after : (w .stage ≡ Header → ⊥) → R p (keeps b s (bodyWalked w k))
-    body-after no-header = choose (eqb k 0) refl
-      where
-        choose : (d : Bool) → eqb k 0 ≡ d → R p (keeps b s (bodyWalked w k))
-        choose true e =
-            let z = eqb-true k 0 e in subst (λ (r : Walked). R p (keeps b s r)) (body-far w k z) (far-outside w b s x xs (far z) no-header)
-        choose false e =
-            let z = eqb-false k 0 e in
-            subst (λ (r : Walked). R p (keeps b s r)) (body-part w k z (min k (w .rest)) refl)
-            (quiet w b s p _ refl (omega (arith, allowed-is (w .position) (length p))) (λ _ _ h. omega (arith, near z)) (λ j h i e. omega arith) (λ e f. let z : _≡_ {A = ℕ} 0 1 = cc in absurd (omega arith)))
+    header-after t a =
+        by-header (R p) w b s p (λ z. far-inside w b s x xs (far z) t (header-fine w b s t a))
+        (λ z. goes-on w b s x xs _ (near z) t (read-after w (w .map) (w .start) b s p (header-fine w b s t a)))
 
     rest-after : w .stage ≡ Body → R p (keeps b s (restWalked w p))
-    rest-after t = choose (eqb (w .rest) 0) refl
-      where
-        choose : (d : Bool) → eqb (w .rest) 0 ≡ d → R p (keeps b s (restWalked w p))
-        choose true e =
-            subst (λ (r : Walked). R p (keeps b s r)) (rest-none w p (eqb-true (w .rest) 0 e)) (trailer-after w b s p 0 (omega arith) (ap heading t) (ap wanted t))
-        choose false e =
-            subst (λ (r : Walked). R p (keeps b s r)) (rest-some w p (eqb-false (w .rest) 0 e) k refl) (body-after (λ h. let z : _≡_ {A = ℕ} 0 1 = cc in omega arith))
+    rest-after t =
+        by-rest K w p (λ _. trailer-after w b s p 0 (omega arith) (ap heading t) (ap wanted t))
+        (λ _. by-body K w k (λ z. far-outside w b s x xs (far z) (λ h. let y : _≡_ {A = ℕ} 0 1 = cc in omega arith))
+        (λ z.
+        quiet w b s p _ refl (omega (arith, allowed-is (w .position) (length p))) (λ _ _ h. omega (arith, near z)) (λ j h i e. omega arith)
+        (λ e f. let y : _≡_ {A = ℕ} 0 1 = cc in absurd (omega arith))))
 
     stage-after : Able w b s → (t : Stage) → w .stage ≡ t → R p (stageWalked t w b s p)
     stage-after a Between t = between-after t a

@@ -1,11 +1,9 @@
 -- What the page says of a walk by a walker that goes on, by what the walk does. Assumes nothing.
 use mathlib.Core.Path.{_≡_, refl, sym, ap, _∙_, subst}
-use mathlib.Core.Bool.{Bool, true, false, false≢true}
+use mathlib.Core.Bool.{false, false≢true}
 use mathlib.Core.List.{List, _∷_}
 use Prim.Native.Nat.{ℕ, _+_, _-_, _≤_, _<_, min, max}
 use native.Mathlib.Omega.{arith}
-use borrow.Author.Tests.{eqb-true, eqb-false, ltb-true, ltb-false}
-use lib.Dec.{eqb, ltb}
 use lib.ListN.{length, take, drop, length-drop}
 use lib.Seq.{take-take, getD-take}
 use Rattle.leaves.specs.Refusals.{number, refusal}
@@ -15,14 +13,14 @@ use Rattle.maps.specs.Good.{checkedReading}
 use Rattle.maps.specs.declared.Checked.the-variants.{Fine}
 use Rattle.reader.specs.Calls.{feeding}
 use Rattle.reader.specs.declared.Fed.{Fed}
-use Rattle.walker.specs.Walk.{furthest, trailer, keeps, onward, stopsAt, stopsInside, fresh, allowed, common, trailerStage, trailerEnded, trailerWalked}
+use Rattle.walker.specs.Walk.{furthest, trailer, keeps, onward, stopsAt, stopsInside, fresh, allowed, common, trailerStage, trailerWalked}
 use Rattle.walker.specs.Answers.{told}
 use Rattle.walker.specs.declared.Stage.{Stage}
 use Rattle.walker.specs.declared.Stage.the-variants.{Between, Header, Stopped}
 use Rattle.walker.specs.declared.Step.the-variants.{More, Refused}
 use Rattle.walker.specs.declared.Walker.{Walker}
 use Rattle.walker.specs.declared.Walked.{Walked}
-use Rattle.walker.proofs.WalkLaws.{allowed-is, common-takes, common-stops, common-within, trailer-whole, trailer-differs, trailer-far, trailer-more, trailer-walks}
+use Rattle.walker.proofs.WalkLaws.{allowed-is, common-takes, common-stops, common-within, by-trailer}
 use Rattle.records.specs.Walks.{answer, heading, wanted, Goes, Leaves, InHeader, Differs, AfterWalk}
 use Rattle.records.proofs.Feeds.{fed-nothing}
 use Rattle.records.proofs.Reach.{takes-allowed}
@@ -195,19 +193,6 @@ module _ (w : Walker) (b s p : List ℕ) (past : ℕ) (low : past < 4) (outside 
       })
 
   pub trailer-after : T (trailerWalked w past p)
-  trailer-after = subst T (trailer-walks w past p k refl same refl) (full (eqb (past + same) 4) refl)
-    where
-      near-end : (past + same ≡ 4 → ⊥) → k ≤ same → (t : Bool) → ltb k (length p) ≡ t → T (trailerEnded w past k (length p) same)
-      near-end d u true f = let v = ltb-true k (length p) f in subst T (trailer-far w past k (length p) same d u v) (too-far u v)
-      near-end d u false f =
-          let v = ltb-false k (length p) f in
-          subst T (trailer-more w past k (length p) same d u v _ refl) (goes-on (trailerStage (past + same)) (λ h i. omega (arith, k-is)))
-
-      part : (past + same ≡ 4 → ⊥) → (t : Bool) → ltb same k ≡ t → T (trailerEnded w past k (length p) same)
-      part d true f = let u = ltb-true same k f in subst T (trailer-differs w past k (length p) same d u) (differs d u)
-      part d false f = near-end d (ltb-false same k f) (ltb k (length p)) refl
-
-      full : (t : Bool) → eqb (past + same) 4 ≡ t → T (trailerEnded w past k (length p) same)
-      full true f =
-          let d = eqb-true (past + same) 4 f in subst T (trailer-whole w past k (length p) same d) (goes-on Between (λ h i. omega (arith, within, k-is, d, low)))
-      full false f = part (eqb-false (past + same) 4 f) (ltb same k) refl
+  trailer-after =
+      by-trailer T w past p (λ d. goes-on Between (λ h i. omega (arith, within, k-is, d, low))) differs (λ d i j. too-far i j)
+      (λ d i j. goes-on (trailerStage (past + same)) (λ h f. omega (arith, k-is)))

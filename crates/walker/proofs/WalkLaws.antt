@@ -9,7 +9,7 @@ use borrow.Author.Tests.{lt-ltb, le-ltb, eq-eqb, ne-eqb, eqb-true, eqb-false, lt
 use lib.Dec.{eqb, ltb}
 use lib.ListN.{length, getD, take, drop, drop-of-length-le, length-take, length-drop}
 use lib.Seq.{drop-cons}
-use Rattle.leaves.specs.Choice.{if_then_else_, if-true, if-false}
+use Rattle.leaves.specs.Choice.{if_then_else_, by-if, if-true, if-false}
 use Rattle.leaves.specs.declared.refusals.Refusal.{Refusal}
 use Rattle.leaves.specs.declared.refusals.Refusal.the-variants.{ShortLoan, BadMap, WrongPhase, BadTrailer, TooFar}
 use Rattle.leaves.specs.Refusals.{number}
@@ -368,3 +368,51 @@ module _ (w : Walker) (b s p : List ℕ) where
   pub on-stage : (length p ≡ 0 → ⊥) → (t : Stage) → w .stage ≡ t → walkedOn w b s p ≡ stageWalked t w b s p
   unfolding walkedOn
   on-stage h t e = if-false _ _ (ne-eqb _ _ h) ∙ ap (λ (u : Stage). stageWalked u w b s p) e
+
+-- what holds in each case of a definition holds of it
+module _ (P : Walked → Type 0) (w : Walker) where
+  pub by-body : (k : ℕ) → (k ≡ 0 → P (stopsAt w TooFar))
+      → ((k ≡ 0 → ⊥) → P (walked (w .map) (w .position + min k (w .rest)) (w .rest - min k (w .rest)) Body (w .start) (min k (w .rest)) Part)) → P (bodyWalked w k)
+  unfolding bodyWalked
+  by-body k far part = by-if P (eqb k 0) _ _ (λ e. far (eqb-true k 0 e)) (λ e. part (eqb-false k 0 e))
+
+  pub by-rest : (p : List ℕ) → (w .rest ≡ 0 → P (trailerWalked w 0 p)) → ((w .rest ≡ 0 → ⊥) → P (bodyWalked w (allowed (w .position) (length p)))) → P (restWalked w p)
+  unfolding restWalked
+  by-rest p none some = by-if P (eqb (w .rest) 0) _ _ (λ e. none (eqb-true (w .rest) 0 e)) (λ e. some (eqb-false (w .rest) 0 e))
+
+  module _ (past : ℕ) (p : List ℕ) where
+    abbrev mayTake : ℕ
+    mayTake = allowed (w .position) (length p)
+
+    abbrev inCommon : ℕ
+    inCommon = common (drop past trailer) (take mayTake p)
+
+    pub by-trailer : (past + inCommon ≡ 4 → P (onward w Between inCommon More))
+        → ((past + inCommon ≡ 4 → ⊥) → inCommon < mayTake → P (onward w (Stopped BadTrailer) inCommon (Refused BadTrailer)))
+        → ((past + inCommon ≡ 4 → ⊥) → mayTake ≤ inCommon → mayTake < length p → P (onward w (Stopped TooFar) inCommon (Refused TooFar)))
+        → ((past + inCommon ≡ 4 → ⊥) → mayTake ≤ inCommon → length p ≤ mayTake → P (onward w (trailerStage (past + inCommon)) inCommon More)) → P (trailerWalked w past p)
+    unfolding trailerWalked trailerEnded
+    by-trailer whole differs far more =
+        by-if P (eqb (past + inCommon) 4) _ _ (λ e. whole (eqb-true (past + inCommon) 4 e))
+        (λ e.
+        let d = eqb-false (past + inCommon) 4 e in
+        by-if P (ltb inCommon mayTake) _ _ (λ f. differs d (ltb-true inCommon mayTake f))
+        (λ f. by-if P (ltb mayTake (length p)) _ _ (λ g. far d (ltb-false inCommon mayTake f) (ltb-true mayTake (length p) g))
+        (λ g. more d (ltb-false inCommon mayTake f) (ltb-false mayTake (length p) g))))
+
+  pub by-more : (m : HeaderMap) (position rest start taken k n : ℕ) → (k < n → P (walked (emptied m) position rest (Stopped TooFar) start taken (Refused TooFar)))
+      → (n ≤ k → P (walked m position rest Header start taken More)) → P (headerMore m position rest start taken k n)
+  unfolding headerMore
+  by-more m position rest start taken k n far on = by-if P (ltb k n) _ _ (λ e. far (ltb-true k n e)) (λ e. on (ltb-false k n e))
+
+module _ (P : Given Walked → Type 0) (w : Walker) (b s p : List ℕ) where
+  abbrev k : ℕ
+  k = allowed (w .position) (length p)
+
+  pub by-between : (k ≡ 0 → P (keeps b s (stopsAt w TooFar))) → ((k ≡ 0 → ⊥) → P (headerRead w (fresh (w .map)) (w .position) k b s p)) → P (betweenWalked w b s p)
+  unfolding betweenWalked
+  by-between far on = by-if P (eqb k 0) _ _ (λ e. far (eqb-true k 0 e)) (λ e. on (eqb-false k 0 e))
+
+  pub by-header : (k ≡ 0 → P (keeps b s (stopsInside w TooFar))) → ((k ≡ 0 → ⊥) → P (headerRead w (w .map) (w .start) k b s p)) → P (headerWalked w b s p)
+  unfolding headerWalked
+  by-header far on = by-if P (eqb k 0) _ _ (λ e. far (eqb-true k 0 e)) (λ e. on (eqb-false k 0 e))
