@@ -32,7 +32,8 @@ use Rattle.walker.specs.declared.Step.the-variants.{Refused}
 use Rattle.walker.specs.declared.Walker.{Walker}
 use Rattle.walker.specs.declared.Walked.{Walked}
 use Rattle.walker.proofs.WalkLaws.{allowed-is, header-read-is, by-more}
-use Rattle.records.specs.Walks.{heading, Leaves, InHeader, AfterWalk}
+use Rattle.records.specs.Stages.{heading, Leaves}
+use Rattle.records.specs.Walks.{InHeader, AfterWalk}
 use Rattle.records.proofs.Reach.{takes-allowed}
 use Rattle.records.proofs.Feeds.{within, later, reached, done, taken-enough}
 use Rattle.records.proofs.HeaderOctets.{opened-low}

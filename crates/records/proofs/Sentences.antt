@@ -20,7 +20,8 @@ use Rattle.walker.specs.declared.Step.the-variants.{More, End, Refused}
 use Rattle.walker.specs.declared.Walker.{Walker}
 use Rattle.walker.specs.declared.Walked.{Walked}
 use Rattle.walker.proofs.WalkLaws.{allowed-is, is-given, checks-low, by-body, by-rest, by-between, by-header, body-part, rest-some, walk-checked, walk-stopped, on-empty, on-stage, walk-rests, walk-over, end-rests, end-over, end-checked, end-stopped}
-use Rattle.records.specs.Walks.{heading, wanted, Goes, Leaves, AfterWalk, AfterEnd, Repeats, BodyFirst}
+use Rattle.records.specs.Stages.{heading, wanted, Goes, Leaves}
+use Rattle.records.specs.Walks.{AfterWalk, AfterEnd, Repeats, BodyFirst}
 use Rattle.records.proofs.Reach.{allowed-none}
 use Rattle.records.proofs.Able.{Able, Standing, able, refused, ended, stopped, standing, fine-of, fresh-fine, header-fine}
 use Rattle.records.proofs.Ways.{apart, quiet, far-outside, far-inside, trailer-after}

@@ -21,7 +21,8 @@ use Rattle.walker.specs.declared.Step.the-variants.{More, Refused}
 use Rattle.walker.specs.declared.Walker.{Walker}
 use Rattle.walker.specs.declared.Walked.{Walked}
 use Rattle.walker.proofs.WalkLaws.{allowed-is, common-takes, common-stops, common-within, by-trailer}
-use Rattle.records.specs.Walks.{answer, heading, wanted, Goes, Leaves, InHeader, Differs, AfterWalk}
+use Rattle.records.specs.Stages.{answer, heading, wanted, Goes, Leaves, Differs}
+use Rattle.records.specs.Walks.{InHeader, AfterWalk}
 use Rattle.records.proofs.Feeds.{fed-nothing}
 use Rattle.records.proofs.Reach.{takes-allowed}
 
