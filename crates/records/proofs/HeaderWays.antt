@@ -1,6 +1,5 @@
 -- What the page says of a walk that reads octets of a header. Assumes nothing.
 use mathlib.Core.Path.{_≡_, refl, sym, ap, _∙_, subst}
-use mathlib.Core.Bool.{false≢true}
 use mathlib.Core.List.{List, _∷_}
 use Prim.Native.Nat.{ℕ, _+_, _-_, _≤_, _<_, min}
 use native.Mathlib.Omega.{arith}
@@ -37,7 +36,7 @@ use Rattle.records.specs.Walks.{InHeader, AfterWalk}
 use Rattle.records.proofs.Reach.{takes-allowed}
 use Rattle.records.proofs.Feeds.{within, later, reached, done, taken-enough}
 use Rattle.records.proofs.HeaderOctets.{opened-low}
-use Rattle.records.proofs.Ways.{Plain, plain-header, Numbers, plain-numbers, apart}
+use Rattle.records.proofs.Ways.{Plain, plain-header, Numbers, plain-numbers, apart, in-header}
 
 -- the map m is that of the header
 pub record Reads (w : Walker) (m : HeaderMap) (b s p : List ℕ) (g : Given Walked) : Type 0 where
@@ -154,35 +153,7 @@ module _ (w : Walker) (m : HeaderMap) (start : ℕ) (b s p : List ℕ) (fine : F
 -- a header that goes on, and one that begins
 module _ (w : Walker) (b s : List ℕ) (x : ℕ) (xs : List ℕ) (g : Given Walked) (near : w .position < furthest) where
   pub goes-on : w .stage ≡ Header → Reads w (w .map) b s (x ∷ xs) g → AfterWalk w b s (x ∷ xs) g
-  goes-on t r =
-      record {
-        block = r .block;
-        store = r .store;
-        outside = λ h. absurd (false≢true (sym h ∙ ap heading t));
-        empty = λ h. absurd (omega arith);
-        too-far = λ h _. apart t h;
-        inside = λ _. r .header;
-        begins = λ h _. apart t h;
-        stops = r .numbers .stops;
-        near = r .numbers .near;
-        first = λ _ _ h. absurd (omega arith);
-        thirteen = λ _. r .numbers .thirteen;
-        eleven = λ _. r .numbers .eleven;
-      }
+  goes-on t r = in-header w b s x xs g (r .block) (r .store) (ap heading t) (r .numbers) (λ h. absurd (omega arith)) (λ h. apart t h) (λ _. r .header) (λ h. apart t h)
 
   pub begins : w .stage ≡ Between → Reads w (fresh (w .map)) b s (x ∷ xs) g → AfterWalk w b s (x ∷ xs) g
-  begins t r =
-      record {
-        block = r .block;
-        store = r .store;
-        outside = λ h. absurd (false≢true (sym h ∙ ap heading t));
-        empty = λ h. absurd (omega arith);
-        too-far = λ _ h. absurd (omega arith);
-        inside = λ h. apart h t;
-        begins = λ _ _. r .header;
-        stops = r .numbers .stops;
-        near = r .numbers .near;
-        first = λ _ _ h. absurd (omega arith);
-        thirteen = λ _. r .numbers .thirteen;
-        eleven = λ _. r .numbers .eleven;
-      }
+  begins t r = in-header w b s x xs g (r .block) (r .store) (ap heading t) (r .numbers) (λ h. absurd (omega arith)) (λ _. near) (λ h. apart h t) (λ _. r .header)

@@ -17,7 +17,7 @@ use Rattle.openings.specs.declared.Opening.{Opening}
 use Rattle.openings.specs.declared.Opening.the-variants.{Record as Opens, Refused as Shut}
 use Rattle.walker.specs.Walk.{trailer}
 use Rattle.records.specs.Layout.{Listed, Sign, record-begun, body-octet, record-ended, file-end, stopped-by, Behind, trailing, bodied, listed, answered, headed, file}
-use Rattle.records.specs.Order.{Rising, begun, ends, ended}
+use Rattle.records.specs.Order.{endOf, Rising, begun, ends, ended}
 
 rising-from : (n k : ℕ) (rs : List Listed) → n ≤ k → Rising k rs → Rising n rs
 rising-from n k [] h r = r
@@ -27,8 +27,8 @@ rising-from n k (x ∷ xs) h r = (omega (arith, r .0), r .1, r .2)
 pub ended-rising : (n : ℕ) (xs : List Sign) → Rising n (begun xs) → Rising n (ended xs)
 ended-rising n [] r = r
 ended-rising n (record-begun x ∷ xs) r =
-    let rest = ended-rising (x .body + x .size + 4) xs (r .2) in
-    by-if (Rising n) (ends xs) _ _ (λ _. (r .0, r .1, rest)) (λ _. rising-from n (x .body + x .size + 4) (ended xs) (omega (arith, r .0, r .1)) rest)
+    let rest = ended-rising (endOf x) xs (r .2) in
+    by-if (Rising n) (ends xs) _ _ (λ _. (r .0, r .1, rest)) (λ _. rising-from n (endOf x) (ended xs) (omega (arith, r .0, r .1)) rest)
 ended-rising n (body-octet x ∷ xs) r = ended-rising n xs r
 ended-rising n (record-ended ∷ xs) r = ended-rising n xs r
 ended-rising n (file-end ∷ xs) r = ended-rising n xs r

@@ -1,6 +1,6 @@
 -- What the page says of a walk by a walker that goes on, by what the walk does. Assumes nothing.
 use mathlib.Core.Path.{_≡_, refl, sym, ap, _∙_, subst}
-use mathlib.Core.Bool.{false, false≢true}
+use mathlib.Core.Bool.{true, false, false≢true}
 use mathlib.Core.List.{List, _∷_}
 use Prim.Native.Nat.{ℕ, _+_, _-_, _≤_, _<_, min, max}
 use native.Mathlib.Omega.{arith}
@@ -90,6 +90,28 @@ module _ (w : Walker) (b s p : List ℕ) (r : Walked) (same : r .walker .map ≡
   quiet near first h stops =
       kept (plain-numbers w p r stops near h) (λ g i f. absurd (first g i f)) (λ _. plain-header _ _ h) (λ _ _. plain-header _ _ h)
 
+-- a call in a header
+module _ (w : Walker) (b s : List ℕ) (x : ℕ) (xs : List ℕ) (g : Given Walked) where
+  pub in-header : drop (w .map .limit) (g .block) ≡ drop (w .map .limit) b → drop (w .map .room) (g .store) ≡ drop (w .map .room) s → heading (w .stage) ≡ true
+      → Numbers w (x ∷ xs) (g .result) → (furthest ≤ w .position → answer g ≡ 13) → (w .stage ≡ Between → w .position < furthest)
+      → (w .stage ≡ Header → InHeader g (feeding (w .map) b s (take (g .result .taken) (x ∷ xs))))
+      → (w .stage ≡ Between → InHeader g (feeding (fresh (w .map)) b s (take (g .result .taken) (x ∷ xs)))) → AfterWalk w b s (x ∷ xs) g
+  in-header block store t n first near inside begins =
+      record {
+        block = block;
+        store = store;
+        outside = λ h. absurd (false≢true (sym h ∙ t));
+        empty = λ h. absurd (omega arith);
+        too-far = λ h i. absurd (omega (arith, near h));
+        inside = inside;
+        begins = λ h _. begins h;
+        stops = n .stops;
+        near = n .near;
+        first = λ _ _ h. first h;
+        thirteen = λ _. n .thirteen;
+        eleven = λ _. n .eleven;
+      }
+
 -- an octet that is too far, where the walker stands
 module _ (w : Walker) (b s : List ℕ) (x : ℕ) (xs : List ℕ) (far : furthest ≤ w .position) where
   none-taken : (r : Walked) → r .taken ≡ 0 → r .step ≡ Refused (refusal 13) → r .walker .stage ≡ Stopped (refusal 13) → Numbers w (x ∷ xs) r
@@ -107,27 +129,14 @@ module _ (w : Walker) (b s : List ℕ) (x : ℕ) (xs : List ℕ) (far : furthest
   pub far-inside : w .stage ≡ Header → Fine ≡ checkedReading (w .map) b s → AfterWalk w b s (x ∷ xs) (keeps b s (stopsInside w (refusal 13)))
   far-inside t fine =
       let e = fed-nothing (w .map) b s fine in
-      let n = none-taken (stopsInside w (refusal 13)) refl refl refl in
+      in-header w b s x xs _ refl refl (ap heading t) (none-taken _ refl refl refl) (λ _. refl) (λ h. apart t h)
+      (λ _.
       record {
-        block = refl;
-        store = refl;
-        outside = λ h. absurd (false≢true (sym h ∙ ap heading t));
-        empty = λ h. absurd (omega arith);
-        too-far = λ h _. apart t h;
-        inside =
-            λ _.
-            record {
-              nine = λ f. absurd (omega arith);
-              ten = λ f. absurd (omega arith);
-              thirteen = λ _. record { map = sym (e .map); block = sym (e .block); store = sym (e .store) };
-            };
-        begins = λ h _. apart t h;
-        stops = n .stops;
-        near = n .near;
-        first = λ _ _ _. refl;
-        thirteen = λ _. n .thirteen;
-        eleven = λ _. n .eleven;
-      }
+        nine = λ f. absurd (omega arith);
+        ten = λ f. absurd (omega arith);
+        thirteen = λ _. record { map = sym (e .map); block = sym (e .block); store = sym (e .store) };
+      })
+      (λ h. apart t h)
 
 -- a trailer
 module _ (w : Walker) (b s p : List ℕ) (past : ℕ) (low : past < 4) (outside : heading (w .stage) ≡ false) (wants : wanted (w .stage) ≡ drop past trailer) where

@@ -5,10 +5,14 @@ use Prim.Native.Nat.{ℕ, _+_, _≤_, _<_}
 use Rattle.leaves.specs.Choice.{if_then_else_}
 use Rattle.records.specs.Layout.{Listed, Sign, record-begun, body-octet, record-ended, file-end, stopped-by}
 
--- every record starts at n or later, its body begins behind its start, and the next record starts behind its body and trailer
+-- where a record ends, whose trailer is taken: "body of Content-Length octets, CR LF CR LF"
+abbrev pub endOf : Listed → ℕ
+endOf r = r .body + r .size + 4
+
+-- every record starts at n or later, its body begins behind its start, and the next record starts where it ends or later
 abbrev pub Rising : ℕ → List Listed → Type 0
 Rising n [] = Unit {0}
-Rising n (r ∷ rs) = (n ≤ r .start) × (r .start < r .body) × Rising (r .body + r .size + 4) rs
+Rising n (r ∷ rs) = (n ≤ r .start) × (r .start < r .body) × Rising (endOf r) rs
 
 -- the records that began
 abbrev pub begun : List Sign → List Listed
