@@ -48,9 +48,6 @@ module _ (m : HeaderMap) (b s : List ℕ) (fine : Fine ≡ checkedReading m b s)
   pub count-is : length (take (m .count) b) ≡ m .count
   count-is = length-take-le (m .count) b (omega (arith, ready .count, ready .block))
 
-  mark-is : length (take (m .mark) s) ≡ m .mark
-  mark-is = length-take-le (m .mark) s (omega (arith, ready .mark, ready .store))
-
   -- a feed of no octets leaves the loans, and the map's table and rooms
   pub fed-nothing : Empties m b s (feeding m b s [])
   fed-nothing =

@@ -36,7 +36,7 @@ use Rattle.records.specs.Walks.{InHeader, AfterWalk}
 use Rattle.records.proofs.Reach.{takes-allowed}
 use Rattle.records.proofs.Feeds.{within, later, reached, done, taken-enough}
 use Rattle.records.proofs.HeaderOctets.{opened-low}
-use Rattle.records.proofs.Ways.{Plain, plain-header, Numbers, plain-numbers, apart, in-header}
+use Rattle.records.proofs.Ways.{Plain, plain-header, Numbers, plain-numbers, stops-by, no-number, apart, in-header}
 
 -- the map m is that of the header
 pub record Reads (w : Walker) (m : HeaderMap) (b s p : List ℕ) (g : Given Walked) : Type 0 where
@@ -118,21 +118,21 @@ module _ (w : Walker) (m : HeaderMap) (start : ℕ) (b s p : List ℕ) (fine : F
             (record { map = refl; block = refl; store = refl });
       })
       (record {
-        stops = λ y f. let z : refusal 13 ≡ y = cc in ap Stopped z;
+        stops = stops-by (refusal 13);
         near = near;
         thirteen = λ _. (omega (arith, all, k-is), omega (arith, all));
         eleven = λ f. absurd (omega arith);
       }))
-      (λ _. plain _ refl (λ y f. let z : _≡_ {A = ℕ} 0 1 = cc in absurd (omega arith)) (λ j h i f. omega arith))
+      (λ _. plain _ refl (λ _ f. no-number refl f) (λ j h i f. omega arith))
 
   opened-reads : Q .answer ≡ Blank → (o : Opening) → opened (saying (mapOf m Q Blank) B S) ≡ o
       → T (openedAt (mapOf m Q Blank) (w .position + taken) (w .rest) start taken o)
-  opened-reads e (Opens size kind) f = plain _ refl (λ y f. let z : _≡_ {A = ℕ} 0 1 = cc in absurd (omega arith)) (λ j h i f. omega arith)
+  opened-reads e (Opens size kind) f = plain _ refl (λ _ f. no-number refl f) (λ j h i f. omega arith)
   opened-reads e (Shut x) f =
       let low = opened-low (saying (mapOf m Q Blank) B S) x f in
       reads _ refl
       (record { nine = λ _. ended; ten = λ _. ended; thirteen = λ f. absurd (omega arith) })
-      (record { stops = λ y f. let z : x ≡ y = cc in ap Stopped z; near = near; thirteen = λ f. absurd (omega arith); eleven = λ f. absurd (omega arith) })
+      (record { stops = stops-by x; near = near; thirteen = λ f. absurd (omega arith); eleven = λ f. absurd (omega arith) })
     where
       ended : (feeding m b s (take taken p) .result .answer ≡ Blank)
           × Leaves (feeding m b s (take taken p) .result .map) (feeding m b s (take taken p) .block) (feeding m b s (take taken p) .store)
@@ -145,7 +145,7 @@ module _ (w : Walker) (m : HeaderMap) (start : ℕ) (b s p : List ℕ) (fine : F
   by-answer Input e = absurd (reached m b s fine (take k p) Input e)
   by-answer (FedRefused x) e =
       let low = reached m b s fine (take k p) (FedRefused x) e .1 in
-      plain _ refl (λ y f. let z : x ≡ y = cc in ap Stopped z) (λ j h i f. omega arith)
+      plain _ refl (stops-by x) (λ j h i f. omega arith)
 
   pub read-after : Reads w m b s p (headerRead w m start k b s p)
   read-after = rw (header-read-is w m start k b s p, fed-goes m b s (take k p) fine) (by-answer (Q .answer) refl)

@@ -24,7 +24,7 @@ use Rattle.records.specs.Stages.{heading, wanted, Goes, Leaves}
 use Rattle.records.specs.Walks.{AfterWalk, AfterEnd, Repeats, BodyFirst}
 use Rattle.records.proofs.Reach.{allowed-none}
 use Rattle.records.proofs.Able.{Able, Standing, able, refused, ended, stopped, standing, fine-of, fresh-fine, header-fine}
-use Rattle.records.proofs.Ways.{apart, quiet, far-outside, far-inside, trailer-after}
+use Rattle.records.proofs.Ways.{stops-by, no-number, apart, quiet, far-outside, far-inside, trailer-after}
 use Rattle.records.proofs.HeaderWays.{read-after, goes-on, begins}
 
 -- a walk by a walker that goes on
@@ -34,12 +34,12 @@ module _ (w : Walker) (b s : List ℕ) where
 
   empty-after : R [] (keeps b s (stands w More))
   empty-after =
-      quiet w b s [] _ refl (omega arith) (λ _ h _. omega arith) (λ j h i e. omega arith) (λ e f. let z : _≡_ {A = ℕ} 0 1 = cc in absurd (omega arith))
+      quiet w b s [] _ refl (omega arith) (λ _ h _. omega arith) (λ j h i e. omega arith) (λ _ f. no-number refl f)
 
   refused-after : (p : List ℕ) (x : Refusal) → Bad x ≡ checkedWalker w (length b) (length s) → R p (keeps b s (stopsAt w x))
   refused-after p x e =
       let low = checks-low w (length b) (length s) x e in
-      quiet w b s p _ refl (omega arith) (λ g _ _. not-refused x (g .fine ∙ sym e)) (λ j h i f. omega arith) (λ y f. let z : x ≡ y = cc in ap Stopped z)
+      quiet w b s p _ refl (omega arith) (λ g _ _. not-refused x (g .fine ∙ sym e)) (λ j h i f. omega arith) (stops-by x)
 
   module _ (x : ℕ) (xs : List ℕ) where
     abbrev p : List ℕ
@@ -73,7 +73,7 @@ module _ (w : Walker) (b s : List ℕ) where
         (λ _. by-body K w k (λ z. far-outside w b s x xs (far z) (λ h. let y : _≡_ {A = ℕ} 0 1 = cc in omega arith))
         (λ z.
         quiet w b s p _ refl (omega (arith, allowed-is (w .position) (length p))) (λ _ _ h. omega (arith, near z)) (λ j h i e. omega arith)
-        (λ e f. let y : _≡_ {A = ℕ} 0 1 = cc in absurd (omega arith))))
+        (λ _ f. no-number refl f)))
 
     stage-after : Able w b s → (t : Stage) → w .stage ≡ t → R p (stageWalked t w b s p)
     stage-after a Between t = between-after t a
@@ -123,11 +123,11 @@ module _ (w : Walker) (b s : List ℕ) where
       by (ended t) =
           rw (walk-over w b s p (resting (w .stage)) refl (ap resting t))
           (rests-after p End (λ r. let z : Over ≡ Walks = sym (ap resting t) ∙ r in let y : _≡_ {A = ℕ} 0 1 = cc in omega arith) (ap heading t)
-          (λ e f. let z : _≡_ {A = ℕ} 0 1 = cc in absurd (omega arith)))
+          (λ _ f. no-number refl f))
       by (stopped e t) =
           rw (walk-rests w b s p (resting (w .stage)) refl e (ap resting t))
           (rests-after p (Refused e) (λ r. let z : Stays e ≡ Walks = sym (ap resting t) ∙ r in let y : _≡_ {A = ℕ} 0 1 = cc in omega arith) (ap heading t)
-          (λ x f. let z : e ≡ x = cc in t ∙ ap Stopped z))
+          (λ x f. t ∙ stops-by e x f))
 
 -- the end of input
 module _ (w : Walker) (b s : List ℕ) where
@@ -138,20 +138,20 @@ module _ (w : Walker) (b s : List ℕ) where
   same-end r h i stops = record { block = refl; store = refl; outside = λ _. h; inside = λ t e. absurd (i t e); stops = stops }
 
   cut-short : (w .stage ≡ Header → ⊥) → E (stopsAt w (refusal 12))
-  cut-short h = same-end _ refl (λ t _. h t) (λ y f. let z : refusal 12 ≡ y = cc in ap Stopped z)
+  cut-short h = same-end _ refl (λ t _. h t) (stops-by (refusal 12))
 
   no-header : (t : Stage) → w .stage ≡ t → heading t ≡ false → w .stage ≡ Header → ⊥
   no-header t e h f = false≢true (sym h ∙ ap heading (sym e ∙ f))
 
   stage-end : resting (w .stage) ≡ Walks → (t : Stage) → w .stage ≡ t → E (stageEnded t w)
-  stage-end r Between t = same-end _ refl (λ h _. apart h t) (λ y f. let z : _≡_ {A = ℕ} 0 1 = cc in absurd (omega arith))
+  stage-end r Between t = same-end _ refl (λ h _. apart h t) (λ _ f. no-number refl f)
   stage-end r Header t =
       record {
         block = refl;
         store = refl;
         outside = λ h. absurd (h t);
         inside = λ _ _. refl;
-        stops = λ y f. let z : refusal 12 ≡ y = cc in ap Stopped z;
+        stops = stops-by (refusal 12);
       }
   stage-end r Body t = cut-short (no-header Body t refl)
   stage-end r Cr t = cut-short (no-header Cr t refl)
@@ -168,13 +168,13 @@ module _ (w : Walker) (b s : List ℕ) where
       by (able a) = rw (is-given (end-checked w b s (resting (w .stage)) refl (a .walks) (fine-of w b s a) (stageEnded (w .stage) w) refl)) (stage-end (a .walks) (w .stage) refl)
       by (refused e r c) =
           let low = checks-low w (length b) (length s) e c in
-          rw (is-given (end-stopped w b s (resting (w .stage)) refl r e c)) (same-end _ refl (λ _ f. omega arith) (λ y f. let z : e ≡ y = cc in ap Stopped z))
+          rw (is-given (end-stopped w b s (resting (w .stage)) refl r e c)) (same-end _ refl (λ _ f. omega arith) (stops-by e))
       by (ended t) =
           rw (is-given (end-over w b s (resting (w .stage)) refl (ap resting t)))
-          (same-end _ refl (λ h f. no-header Ended t refl h) (λ y f. let z : _≡_ {A = ℕ} 0 1 = cc in absurd (omega arith)))
+          (same-end _ refl (λ h f. no-header Ended t refl h) (λ _ f. no-number refl f))
       by (stopped e t) =
           rw (is-given (end-rests w b s (resting (w .stage)) refl e (ap resting t)))
-          (same-end _ refl (λ h f. no-header (Stopped e) t refl h) (λ y f. let z : e ≡ y = cc in t ∙ ap Stopped z))
+          (same-end _ refl (λ h f. no-header (Stopped e) t refl h) (λ y f. t ∙ stops-by e y f))
 
   -- one that is stopped or ended
   pub repeats-number : (e : Refusal) → w .stage ≡ Stopped e → Repeats w b s (Refused e)

@@ -1,6 +1,6 @@
 -- What the page says of a walk by a walker that goes on, by what the walk does. Assumes nothing.
 use mathlib.Core.Path.{_≡_, refl, sym, ap, _∙_, subst}
-use mathlib.Core.Bool.{true, false, false≢true}
+use mathlib.Core.Bool.{Bool, true, false, false≢true}
 use mathlib.Core.List.{List, _∷_}
 use Prim.Native.Nat.{ℕ, _+_, _-_, _≤_, _<_, min, max}
 use native.Mathlib.Omega.{arith}
@@ -17,7 +17,8 @@ use Rattle.walker.specs.Walk.{furthest, trailer, keeps, onward, stopsAt, stopsI
 use Rattle.walker.specs.Answers.{told}
 use Rattle.walker.specs.declared.Stage.{Stage}
 use Rattle.walker.specs.declared.Stage.the-variants.{Between, Header, Stopped}
-use Rattle.walker.specs.declared.Step.the-variants.{More, Refused}
+use Rattle.walker.specs.declared.Step.{Step}
+use Rattle.walker.specs.declared.Step.the-variants.{More, Record, Body, End, Refused}
 use Rattle.walker.specs.declared.Walker.{Walker}
 use Rattle.walker.specs.declared.Walked.{Walked}
 use Rattle.walker.proofs.WalkLaws.{allowed-is, common-takes, common-stops, common-within, by-trailer}
@@ -55,6 +56,21 @@ plain-numbers w p r stops near h =
       eleven = λ e. absurd (h 11 (omega arith) (omega arith) e);
     }
 
+-- a number stops the walker
+pub stops-by : (x y : Refusal) → Refused x ≡ Refused y → Stopped x ≡ Stopped y
+stops-by x y f = let z : x ≡ y = cc in ap Stopped z
+
+-- and no other answer is one
+abbrev pub isNumber : Step → Bool
+isNumber More = false
+isNumber (Record start body size kind) = false
+isNumber Body = false
+isNumber End = false
+isNumber (Refused x) = true
+
+pub no-number : {A : Type 0} {t : Step} {x : Refusal} → isNumber t ≡ false → t ≡ Refused x → A
+no-number h f = absurd (false≢true (sym h ∙ ap isNumber f))
+
 -- two stages are not one
 pub apart : {A : Type 0} {t : Stage} → t ≡ Header → t ≡ Between → A
 apart e f = let z : _≡_ {A = ℕ} 0 1 = cc in absurd (omega arith)
@@ -64,7 +80,7 @@ module _ (w : Walker) (b s p : List ℕ) (r : Walked) (same : r .walker .map ≡
   leaves = record { map = same; block = refl; store = refl }
 
   -- a call that leaves the map and the loans
-  pub kept : Numbers w p r → (Goes w b s → 0 < length p → furthest ≤ w .position → told (r .step) ≡ 13)
+  kept : Numbers w p r → (Goes w b s → 0 < length p → furthest ≤ w .position → told (r .step) ≡ 13)
       → (w .stage ≡ Header → InHeader (keeps b s r) (feeding (w .map) b s (take (r .taken) p)))
       → (w .stage ≡ Between → w .position < furthest → InHeader (keeps b s r) (feeding (fresh (w .map)) b s (take (r .taken) p)))
       → AfterWalk w b s p (keeps b s r)
@@ -117,7 +133,7 @@ module _ (w : Walker) (b s : List ℕ) (x : ℕ) (xs : List ℕ) (far : furthest
   none-taken : (r : Walked) → r .taken ≡ 0 → r .step ≡ Refused (refusal 13) → r .walker .stage ≡ Stopped (refusal 13) → Numbers w (x ∷ xs) r
   none-taken r z e t =
       record {
-        stops = λ y f. let i : refusal 13 ≡ y = cc in t ∙ ap Stopped i;
+        stops = λ y f. t ∙ stops-by (refusal 13) y (sym e ∙ f);
         near = omega arith;
         thirteen = λ _. (omega arith, omega arith);
         eleven = λ f. let i : told (Refused (refusal 13)) ≡ 11 = sym (ap told e) ∙ f in absurd (omega arith);
@@ -163,7 +179,7 @@ module _ (w : Walker) (b s p : List ℕ) (past : ℕ) (low : past < 4) (outside 
 
   goes-on : (t : Stage) → (0 < length p → furthest ≤ w .position → ⊥) → T (onward w t same More)
   goes-on t near =
-      quiet w b s p _ refl (omega (arith, within, k-is)) (λ _. near) (λ j h i e. omega arith) (λ e f. let z : _≡_ {A = ℕ} 0 1 = cc in absurd (omega arith))
+      quiet w b s p _ refl (omega (arith, within, k-is)) (λ _. near) (λ j h i e. omega arith) (λ _ f. no-number refl f)
 
   -- a number that stops the walker in the trailer
   stopping : (x : Refusal) → (furthest ≤ w .position → number x ≡ 13) → Numbers w p (onward w (Stopped x) same (Refused x)) → T (onward w (Stopped x) same (Refused x))
@@ -173,7 +189,7 @@ module _ (w : Walker) (b s p : List ℕ) (past : ℕ) (low : past < 4) (outside 
   differs d i =
       stopping (refusal 11) (λ f. absurd (omega (arith, k-is)))
       (record {
-        stops = λ y f. let z : refusal 11 ≡ y = cc in ap Stopped z;
+        stops = stops-by (refusal 11);
         near = omega (arith, within, k-is);
         thirteen = λ e. absurd (omega arith);
         eleven =
@@ -196,7 +212,7 @@ module _ (w : Walker) (b s p : List ℕ) (past : ℕ) (low : past < 4) (outside 
   too-far i j =
       stopping (refusal 13) (λ _. refl)
       (record {
-        stops = λ y f. let z : refusal 13 ≡ y = cc in ap Stopped z;
+        stops = stops-by (refusal 13);
         near = omega (arith, within, k-is);
         thirteen = λ _. (omega (arith, within, k-is), omega (arith, within));
         eleven = λ e. absurd (omega arith);
