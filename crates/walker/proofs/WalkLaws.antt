@@ -5,19 +5,21 @@ use mathlib.Core.List.{List, [], _∷_}
 use Prim.Native.Nat.{ℕ, suc, _+_, _-_, _≤_, _<_, min}
 use native.Mathlib.Omega.{arith}
 use native.Mathlib.Numerals.{add-one}
-use borrow.Author.Tests.{lt-ltb, le-ltb, eq-eqb, ne-eqb}
-use lib.Dec.{eqb}
+use borrow.Author.Tests.{lt-ltb, le-ltb, eq-eqb, ne-eqb, eqb-true, eqb-false, ltb-true, ltb-false}
+use lib.Dec.{eqb, ltb}
 use lib.ListN.{length, getD, take, drop, drop-of-length-le, length-take, length-drop}
 use lib.Seq.{drop-cons}
-use Rattle.leaves.specs.Choice.{if_then_else_, if-true, if-false}
+use Rattle.leaves.specs.Choice.{if_then_else_, by-if, if-true, if-false}
 use Rattle.leaves.specs.declared.refusals.Refusal.{Refusal}
-use Rattle.leaves.specs.declared.refusals.Refusal.the-variants.{BadMap, BadTrailer, TooFar}
-use Rattle.maps.specs.Good.{defaultLimit, checked, unless}
+use Rattle.leaves.specs.declared.refusals.Refusal.the-variants.{ShortLoan, BadMap, WrongPhase, BadTrailer, TooFar}
+use Rattle.leaves.specs.Refusals.{number}
+use Rattle.maps.specs.Good.{defaultLimit, good, lent, checked, unless}
 use Rattle.maps.specs.Maps.{empty, Given, Is}
 use Rattle.maps.specs.declared.Phase.the-variants.{Reading, Done}
 use Rattle.maps.specs.declared.HeaderMap.{HeaderMap}
 use Rattle.maps.specs.declared.Checked.{Checked}
 use Rattle.maps.specs.declared.Checked.the-variants.{Fine, Refused as Bad}
+use Rattle.maps.proofs.GoodLaws.{goes-on, refused-by, not-refused, checked-bad, checked-short, checked-wrong, checked-fine}
 use Rattle.reader.specs.Calls.{checkedRooms, beginning, makes, feeding}
 use Rattle.reader.specs.declared.Fed.{Fed}
 use Rattle.leaves.proofs.PasteLaws.{tail-all}
@@ -42,6 +44,10 @@ module _ (position n : ℕ) where
   unfolding allowed
   allowed-behind h = omega arith
 
+  pub allowed-is : allowed position n ≡ min n (furthest - position)
+  unfolding allowed
+  allowed-is = refl
+
   pub allowed-within : allowed position n ≤ n
   unfolding allowed
   allowed-within = omega arith
@@ -59,6 +65,29 @@ module _ (w : Walker) (b s : ℕ) where
   pub rest-fine : w .rest ≤ longest → (r : Bool) → r ≡ readyAt (w .stage) (w .map .phase) → (c : Checked) → c ≡ checked r (w .map) b s → c ≡ checkedWalker w b s
   unfolding checkedWalker
   rest-fine h r e c f = f ∙ ap (λ (t : Bool). checked t (w .map) b s) e ∙ sym (if-false _ _ (le-ltb _ _ h))
+
+-- they give 2, 3 or 7
+checked-low : (ready : Bool) (m : HeaderMap) (b s : ℕ) (x : Refusal) → Bad x ≡ checked ready m b s → number x < 8
+checked-low ready m b s x e = by (good m) refl (lent m b s) refl ready refl
+  where
+    same : (y : Refusal) → Bad y ≡ checked ready m b s → number y < 8 → number x < 8
+    same y f h = let z : y ≡ x = cc in omega (arith, ap number z)
+
+    by : (g : Bool) → good m ≡ g → (l : Bool) → lent m b s ≡ l → (r : Bool) → ready ≡ r → number x < 8
+    by false d l f r h = same BadMap (checked-bad ready m b s d) (omega arith)
+    by true d false f r h = same ShortLoan (checked-short ready m b s d f) (omega arith)
+    by true d true f false h = same WrongPhase (checked-wrong ready m b s d f h) (omega arith)
+    by true d true f true h = not-refused x (checked-fine ready m b s d f h ∙ sym e)
+
+pub checks-low : (w : Walker) (b s : ℕ) (x : Refusal) → Bad x ≡ checkedWalker w b s → number x < 8
+checks-low w b s x e = by (ltb longest (w .rest)) refl
+  where
+    by : (t : Bool) → ltb longest (w .rest) ≡ t → number x < 8
+    by true f =
+        let h = rest-over w b s (ltb-true longest (w .rest) f) in
+        let z : BadMap ≡ x = cc in
+        omega (arith, ap number z)
+    by false f = checked-low _ (w .map) b s x (e ∙ sym (rest-fine w b s (ltb-false longest (w .rest) f) _ refl _ refl))
 
 -- a body
 module _ (w : Walker) (k : ℕ) where
@@ -87,6 +116,34 @@ module _ (x y : List ℕ) (i : ℕ) where
   pub common-end : length x ≤ i → common (drop i x) (drop i y) ≡ 0
   unfolding common
   common-end h = rw (drop-of-length-le x h)
+
+module _ (x y : ℕ) (xs ys : List ℕ) where
+  pub common-same : x ≡ y → common (x ∷ xs) (y ∷ ys) ≡ suc (common xs ys)
+  common-same e = common-more (x ∷ xs) (y ∷ ys) 0 (omega arith) (omega arith) e
+
+  pub common-other : (x ≡ y → ⊥) → common (x ∷ xs) (y ∷ ys) ≡ 0
+  common-other e = common-differs (x ∷ xs) (y ∷ ys) 0 (omega arith) (omega arith) e
+
+-- they are the same octets
+pub common-takes : (x y : List ℕ) → take (common x y) x ≡ take (common x y) y
+common-takes [] y = rw (common-end [] y 0 (omega arith))
+common-takes (x ∷ xs) [] = rw (common-short (x ∷ xs) [] 0 (omega arith) (omega arith))
+common-takes (x ∷ xs) (y ∷ ys) = choose (eqb x y) refl (common-takes xs ys)
+  where
+    choose : (t : Bool) → eqb x y ≡ t → take (common xs ys) xs ≡ take (common xs ys) ys
+        → take (common (x ∷ xs) (y ∷ ys)) (x ∷ xs) ≡ take (common (x ∷ xs) (y ∷ ys)) (y ∷ ys)
+    choose true e ih = let z : x ≡ y = eqb-true x y e in rw (common-same x y xs ys z, z, ih)
+    choose false e ih = rw (common-other x y xs ys (eqb-false x y e))
+
+-- and the next one is another
+pub common-stops : (x y : List ℕ) → common x y < length x → common x y < length y → getD x (common x y) 0 ≡ getD y (common x y) 0 → ⊥
+common-stops [] y h i e = omega arith
+common-stops (x ∷ xs) [] h i e = omega arith
+common-stops (x ∷ xs) (y ∷ ys) h i e = choose (eqb x y) refl (common-stops xs ys)
+  where
+    choose : (t : Bool) → eqb x y ≡ t → (common xs ys < length xs → common xs ys < length ys → getD xs (common xs ys) 0 ≡ getD ys (common xs ys) 0 → ⊥) → ⊥
+    choose true f ih = let c = common-same x y xs ys (eqb-true x y f) in ih (omega (arith, c, h)) (omega (arith, c, i)) (rw c at e)
+    choose false f ih = let c = common-other x y xs ys (eqb-false x y f) in eqb-false x y f (rw c at e)
 
 pub common-within : (x y : List ℕ) → (common x y ≤ length x) × (common x y ≤ length y)
 unfolding common
@@ -126,6 +183,16 @@ module _ (w : Walker) (past k n same : ℕ) where
 
 -- a walker's start
 module _ (m : HeaderMap) (room position : ℕ) (b s : List ℕ) where
+  pub starting-goes : Fine ≡ checkedRooms defaultLimit room (length b) (length s)
+      → starting m room position b s ≡ keeps b s (walked (empty (m .table) defaultLimit room false false Done) position 0 Between position 0 More)
+  unfolding starting
+  starting-goes e = goes-on _ _ _ e
+
+  pub starting-stops : (x : Refusal) → Bad x ≡ checkedRooms defaultLimit room (length b) (length s)
+      → starting m room position b s ≡ keeps b s (walked m position 0 (Stopped x) position 0 (Refused x))
+  unfolding starting
+  starting-stops x e = refused-by _ _ _ x e
+
   start-by : (c : Checked) → c ≡ checkedRooms defaultLimit room (length b) (length s)
       → (r : Made) → r ≡ unless c (λ e. makes b s m (Bad e)) (makes b s (empty (m .table) defaultLimit room false false Reading) Fine) .result
       → r .answer ≡ Fine → (q : HeaderMap) → q ≡ emptied (r .map)
@@ -235,6 +302,10 @@ module _ (w : Walker) (p : List ℕ) where
 pub kept : {g : Given Walked} (b s : List ℕ) (x r : Walked) → g ≡ keeps b s x → r ≡ x → Is g r b s
 kept b s x r e f = rw e (record { result = f; block = refl; store = refl })
 
+-- and a definition by its contract
+pub is-given : {g : Given Walked} {r : Walked} {b s : List ℕ} → Is g r b s → g ≡ keeps b s r
+is-given i = rw (i .result, i .block, i .store)
+
 pub going : {g h : Given Walked} {r : Walked} {b s : List ℕ} → g ≡ h → Is h r b s → Is g r b s
 going e i = rw e i
 
@@ -259,6 +330,10 @@ module _ (w : Walker) (m : HeaderMap) (start k : ℕ) (b s p : List ℕ) where
         block = i .block;
         store = i .store;
       }
+
+  pub header-read-is : headerRead w m start k b s p ≡ headerGives w start k (length p) (feeding m b s (take k p))
+  unfolding headerRead
+  header-read-is = refl
 
   pub header-reads : (f : Fed) (b′ s′ : List ℕ) → Is (feeding m b s (take (k - 0) (drop 0 p))) f b′ s′ → (r : Walked) → r ≡ answered f b′ s′
       → Is (headerRead w m start k b s p) r b′ s′
@@ -293,3 +368,51 @@ module _ (w : Walker) (b s p : List ℕ) where
   pub on-stage : (length p ≡ 0 → ⊥) → (t : Stage) → w .stage ≡ t → walkedOn w b s p ≡ stageWalked t w b s p
   unfolding walkedOn
   on-stage h t e = if-false _ _ (ne-eqb _ _ h) ∙ ap (λ (u : Stage). stageWalked u w b s p) e
+
+-- what holds in each case of a definition holds of it
+module _ (P : Walked → Type 0) (w : Walker) where
+  pub by-body : (k : ℕ) → (k ≡ 0 → P (stopsAt w TooFar))
+      → ((k ≡ 0 → ⊥) → P (walked (w .map) (w .position + min k (w .rest)) (w .rest - min k (w .rest)) Body (w .start) (min k (w .rest)) Part)) → P (bodyWalked w k)
+  unfolding bodyWalked
+  by-body k far part = by-if P (eqb k 0) _ _ (λ e. far (eqb-true k 0 e)) (λ e. part (eqb-false k 0 e))
+
+  pub by-rest : (p : List ℕ) → (w .rest ≡ 0 → P (trailerWalked w 0 p)) → ((w .rest ≡ 0 → ⊥) → P (bodyWalked w (allowed (w .position) (length p)))) → P (restWalked w p)
+  unfolding restWalked
+  by-rest p none some = by-if P (eqb (w .rest) 0) _ _ (λ e. none (eqb-true (w .rest) 0 e)) (λ e. some (eqb-false (w .rest) 0 e))
+
+  module _ (past : ℕ) (p : List ℕ) where
+    abbrev mayTake : ℕ
+    mayTake = allowed (w .position) (length p)
+
+    abbrev inCommon : ℕ
+    inCommon = common (drop past trailer) (take mayTake p)
+
+    pub by-trailer : (past + inCommon ≡ 4 → P (onward w Between inCommon More))
+        → ((past + inCommon ≡ 4 → ⊥) → inCommon < mayTake → P (onward w (Stopped BadTrailer) inCommon (Refused BadTrailer)))
+        → ((past + inCommon ≡ 4 → ⊥) → mayTake ≤ inCommon → mayTake < length p → P (onward w (Stopped TooFar) inCommon (Refused TooFar)))
+        → ((past + inCommon ≡ 4 → ⊥) → mayTake ≤ inCommon → length p ≤ mayTake → P (onward w (trailerStage (past + inCommon)) inCommon More)) → P (trailerWalked w past p)
+    unfolding trailerWalked trailerEnded
+    by-trailer whole differs far more =
+        by-if P (eqb (past + inCommon) 4) _ _ (λ e. whole (eqb-true (past + inCommon) 4 e))
+        (λ e.
+        let d = eqb-false (past + inCommon) 4 e in
+        by-if P (ltb inCommon mayTake) _ _ (λ f. differs d (ltb-true inCommon mayTake f))
+        (λ f. by-if P (ltb mayTake (length p)) _ _ (λ g. far d (ltb-false inCommon mayTake f) (ltb-true mayTake (length p) g))
+        (λ g. more d (ltb-false inCommon mayTake f) (ltb-false mayTake (length p) g))))
+
+  pub by-more : (m : HeaderMap) (position rest start taken k n : ℕ) → (k < n → P (walked (emptied m) position rest (Stopped TooFar) start taken (Refused TooFar)))
+      → (n ≤ k → P (walked m position rest Header start taken More)) → P (headerMore m position rest start taken k n)
+  unfolding headerMore
+  by-more m position rest start taken k n far on = by-if P (ltb k n) _ _ (λ e. far (ltb-true k n e)) (λ e. on (ltb-false k n e))
+
+module _ (P : Given Walked → Type 0) (w : Walker) (b s p : List ℕ) where
+  abbrev k : ℕ
+  k = allowed (w .position) (length p)
+
+  pub by-between : (k ≡ 0 → P (keeps b s (stopsAt w TooFar))) → ((k ≡ 0 → ⊥) → P (headerRead w (fresh (w .map)) (w .position) k b s p)) → P (betweenWalked w b s p)
+  unfolding betweenWalked
+  by-between far on = by-if P (eqb k 0) _ _ (λ e. far (eqb-true k 0 e)) (λ e. on (eqb-false k 0 e))
+
+  pub by-header : (k ≡ 0 → P (keeps b s (stopsInside w TooFar))) → ((k ≡ 0 → ⊥) → P (headerRead w (w .map) (w .start) k b s p)) → P (headerWalked w b s p)
+  unfolding headerWalked
+  by-header far on = by-if P (eqb k 0) _ _ (λ e. far (eqb-true k 0 e)) (λ e. on (eqb-false k 0 e))

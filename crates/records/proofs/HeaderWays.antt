@@ -1,0 +1,159 @@
+-- What the page says of a walk that reads octets of a header. Assumes nothing.
+use mathlib.Core.Path.{_≡_, refl, sym, ap, _∙_, subst}
+use mathlib.Core.List.{List, _∷_}
+use Prim.Native.Nat.{ℕ, _+_, _-_, _≤_, _<_, min}
+use native.Mathlib.Omega.{arith}
+use lib.ListN.{length, take, drop}
+use lib.Seq.{take-take}
+use Rattle.leaves.specs.Paste.{lay}
+use Rattle.leaves.specs.Refusals.{number, refusal}
+use Rattle.leaves.specs.declared.refusals.Refusal.{Refusal}
+use Rattle.leaves.proofs.LayLaws.{lay-rest}
+use Rattle.maps.specs.Good.{checkedReading}
+use Rattle.maps.specs.Maps.{Given}
+use Rattle.maps.specs.Said.{saying}
+use Rattle.maps.specs.declared.HeaderMap.{HeaderMap}
+use Rattle.maps.specs.declared.Checked.the-variants.{Fine}
+use Rattle.reader.specs.Reading.{Reading, fed}
+use Rattle.reader.specs.Calls.{rulesOf, readingOf, mapOf, feeding}
+use Rattle.reader.specs.declared.Answer.{Answer}
+use Rattle.reader.specs.declared.Answer.the-variants.{More, Blank, Input, Refused as FedRefused}
+use Rattle.reader.specs.declared.Fed.{Fed}
+use Rattle.readings.proofs.Cut.{fed-goes}
+use Rattle.openings.specs.Opening.{opened}
+use Rattle.openings.specs.declared.Opening.{Opening}
+use Rattle.openings.specs.declared.Opening.the-variants.{Record as Opens, Refused as Shut}
+use Rattle.openings.proofs.OpenLaws.{opening-goes}
+use Rattle.walker.specs.Walk.{furthest, walked, fresh, emptied, allowed, openedAt, headerMore, headerBy, headerRead}
+use Rattle.walker.specs.Answers.{told}
+use Rattle.walker.specs.declared.Stage.the-variants.{Between, Header, Stopped}
+use Rattle.walker.specs.declared.Step.the-variants.{Refused}
+use Rattle.walker.specs.declared.Walker.{Walker}
+use Rattle.walker.specs.declared.Walked.{Walked}
+use Rattle.walker.proofs.WalkLaws.{allowed-is, header-read-is, by-more}
+use Rattle.records.specs.Stages.{heading, Leaves}
+use Rattle.records.specs.Walks.{InHeader, AfterWalk}
+use Rattle.records.proofs.Reach.{takes-allowed}
+use Rattle.records.proofs.Feeds.{within, later, reached, done, taken-enough}
+use Rattle.records.proofs.HeaderOctets.{opened-low}
+use Rattle.records.proofs.Ways.{Plain, plain-header, Numbers, plain-numbers, stops-by, no-number, apart, in-header}
+
+-- the map m is that of the header
+pub record Reads (w : Walker) (m : HeaderMap) (b s p : List ℕ) (g : Given Walked) : Type 0 where
+  pub block : drop (m .limit) (g .block) ≡ drop (m .limit) b
+  pub store : drop (m .room) (g .store) ≡ drop (m .room) s
+  pub header : InHeader g (feeding m b s (take (g .result .taken) p))
+  pub numbers : Numbers w p (g .result)
+
+module _ (w : Walker) (m : HeaderMap) (start : ℕ) (b s p : List ℕ) (fine : Fine ≡ checkedReading m b s) where
+  abbrev k : ℕ
+  k = allowed (w .position) (length p)
+
+  abbrev Q : Reading
+  Q = fed (rulesOf m) (readingOf m b s) (take k p)
+
+  abbrev taken : ℕ
+  taken = length (Q .block) - m .count
+
+  abbrev B : List ℕ
+  B = lay b (Q .block)
+
+  abbrev S : List ℕ
+  S = lay s (Q .found .store)
+
+  -- what the reader's feed gave, by its answer
+  abbrev gave : Answer → Given Fed
+  gave a = record { result = record { map = mapOf m Q a; taken = taken; answer = a }; block = B; store = S }
+
+  abbrev left : Walked → Given Walked
+  left r = record { result = r; block = B; store = S }
+
+  k-is : k ≡ min (length p) (furthest - w .position)
+  k-is = allowed-is (w .position) (length p)
+
+  takes : length (take k p) ≡ k
+  takes = takes-allowed (w .position) p
+
+  near : taken ≤ furthest - w .position
+  near = omega (arith, within m b s fine (take k p), takes, k-is)
+
+  -- a feed of the octets that were taken gives the same
+  gave-is : (a : Answer) → Q .answer ≡ a → feeding m b s (take taken (take k p)) ≡ feeding m b s (take k p) → feeding m b s (take taken p) ≡ gave a
+  gave-is a e h =
+      ap (feeding m b s) (sym (take-take taken k p (omega (arith, within m b s fine (take k p), takes)))) ∙ h ∙ fed-goes m b s (take k p) fine ∙ ap gave e
+
+  reads : (r : Walked) → r .taken ≡ taken → InHeader (left r) (feeding m b s (take taken p)) → Numbers w p r → Reads w m b s p (left r)
+  reads r same h n =
+      let z = later m b s fine (take k p) .sound in
+      record {
+        block = lay-rest b (Q .block) (m .limit) (z .limit);
+        store = lay-rest s (Q .found .store) (m .room) (z .room);
+        header = subst (λ (n : ℕ). InHeader (left r) (feeding m b s (take n p))) (sym same) h;
+        numbers = n;
+      }
+
+  -- an answer that is no number from 9 on
+  plain : (r : Walked) → r .taken ≡ taken → ((e : Refusal) → r .step ≡ Refused e → r .walker .stage ≡ Stopped e) → Plain (told (r .step)) → Reads w m b s p (left r)
+  plain r same stops h = reads r same (plain-header _ _ h) (plain-numbers w p r stops (omega (arith, near, same)) h)
+
+  abbrev T : Walked → Type 0
+  T r = Reads w m b s p (left r)
+
+  abbrev far : Walked
+  far = walked (emptied (mapOf m Q More)) (w .position + taken) (w .rest) (Stopped (refusal 13)) start taken (Refused (refusal 13))
+
+  more-reads : Q .answer ≡ More → T (headerMore (mapOf m Q More) (w .position + taken) (w .rest) start taken k (length p))
+  more-reads e =
+      by-more T w (mapOf m Q More) (w .position + taken) (w .rest) start taken k (length p)
+      (λ d.
+      let all : taken ≡ k = omega (arith, reached m b s fine (take k p) More e, takes) in
+      reads far refl
+      (record {
+        nine = λ f. absurd (omega arith);
+        ten = λ f. absurd (omega arith);
+        thirteen =
+            λ _.
+            subst (λ (f : Given Fed). Leaves (emptied (f .result .map)) (f .block) (f .store) (left far))
+            (sym (gave-is More e (ap (λ (n : ℕ). feeding m b s (take n (take k p))) all ∙ ap (feeding m b s) (take-take k k p (omega arith)))))
+            (record { map = refl; block = refl; store = refl });
+      })
+      (record {
+        stops = stops-by (refusal 13);
+        near = near;
+        thirteen = λ _. (omega (arith, all, k-is), omega (arith, all));
+        eleven = λ f. absurd (omega arith);
+      }))
+      (λ _. plain _ refl (λ _ f. no-number refl f) (λ j h i f. omega arith))
+
+  opened-reads : Q .answer ≡ Blank → (o : Opening) → opened (saying (mapOf m Q Blank) B S) ≡ o
+      → T (openedAt (mapOf m Q Blank) (w .position + taken) (w .rest) start taken o)
+  opened-reads e (Opens size kind) f = plain _ refl (λ _ f. no-number refl f) (λ j h i f. omega arith)
+  opened-reads e (Shut x) f =
+      let low = opened-low (saying (mapOf m Q Blank) B S) x f in
+      reads _ refl
+      (record { nine = λ _. ended; ten = λ _. ended; thirteen = λ f. absurd (omega arith) })
+      (record { stops = stops-by x; near = near; thirteen = λ f. absurd (omega arith); eleven = λ f. absurd (omega arith) })
+    where
+      ended : (feeding m b s (take taken p) .result .answer ≡ Blank)
+          × Leaves (feeding m b s (take taken p) .result .map) (feeding m b s (take taken p) .block) (feeding m b s (take taken p) .store)
+          (left (openedAt (mapOf m Q Blank) (w .position + taken) (w .rest) start taken (Shut x)))
+      ended = rw (gave-is Blank e (taken-enough m b s fine (take k p) e)) (refl, record { map = refl; block = refl; store = refl })
+
+  by-answer : (a : Answer) → Q .answer ≡ a → T (headerBy a (mapOf m Q a) (w .position + taken) (w .rest) start taken k (length p) B S)
+  by-answer More e = more-reads e
+  by-answer Blank e = rw (opening-goes (mapOf m Q Blank) B S (done m b s fine (take k p))) (opened-reads e (opened (saying (mapOf m Q Blank) B S)) refl)
+  by-answer Input e = absurd (reached m b s fine (take k p) Input e)
+  by-answer (FedRefused x) e =
+      let low = reached m b s fine (take k p) (FedRefused x) e .1 in
+      plain _ refl (stops-by x) (λ j h i f. omega arith)
+
+  pub read-after : Reads w m b s p (headerRead w m start k b s p)
+  read-after = rw (header-read-is w m start k b s p, fed-goes m b s (take k p) fine) (by-answer (Q .answer) refl)
+
+-- a header that goes on, and one that begins
+module _ (w : Walker) (b s : List ℕ) (x : ℕ) (xs : List ℕ) (g : Given Walked) (near : w .position < furthest) where
+  pub goes-on : w .stage ≡ Header → Reads w (w .map) b s (x ∷ xs) g → AfterWalk w b s (x ∷ xs) g
+  goes-on t r = in-header w b s x xs g (r .block) (r .store) (ap heading t) (r .numbers) (λ h. absurd (omega arith)) (λ h. apart t h) (λ _. r .header) (λ h. apart t h)
+
+  pub begins : w .stage ≡ Between → Reads w (fresh (w .map)) b s (x ∷ xs) g → AfterWalk w b s (x ∷ xs) g
+  begins t r = in-header w b s x xs g (r .block) (r .store) (ap heading t) (r .numbers) (λ h. absurd (omega arith)) (λ _. near) (λ h. apart h t) (λ _. r .header)
