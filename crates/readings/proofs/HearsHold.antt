@@ -14,7 +14,7 @@ use Rattle.maps.specs.Said.{Said, pairAt, statusAt, saying}
 use Rattle.maps.specs.declared.Phase.the-variants.{Done}
 use Rattle.maps.specs.declared.HeaderMap.{HeaderMap}
 use Rattle.maps.specs.declared.Checked.the-variants.{Fine}
-use Rattle.maps.proofs.FrontLaws.{pairs-front, status-front}
+use Rattle.maps.proofs.TextLaws.{pairs-front, status-front}
 use Rattle.maps.proofs.GoodLaws.{ready-of}
 use Rattle.maps.proofs.SaidLaws.{said-is, said-same}
 use Rattle.reader.specs.Reading.{Rules, Reading, fed, finished, begun}

@@ -19,11 +19,11 @@ use Rattle.folds.specs.declared.Change.the-variants.{Nothing, Status as Headed,
 use Rattle.reader.specs.Reading.{Rules, Reading, begun, goes, lined, ruled, closed, put, step, fed, finished}
 use Rattle.reader.specs.declared.Answer.{Answer}
 use Rattle.reader.specs.declared.Answer.the-variants.{More, Blank, Input, Refused}
-use Rattle.reader.proofs.FitLaws.{all-mono, status-mono}
+use Rattle.maps.proofs.FitLaws.{all-mono, status-mono}
 use Rattle.reader.proofs.OctetSteps.{still}
 use Rattle.readings.specs.Heard.{Hearing, heard}
 use Rattle.readings.specs.Listening.{Listening, silent, lineHeard, listened, listening, lastHeard, said, hearingOf, atBlank, refused, answered, listeningOf}
-use Rattle.readings.proofs.Kept.{Sound, fed-later}
+use Rattle.readings.proofs.Kept.{Sound, fed-later, begun-sound}
 use Rattle.readings.proofs.Thrift.{numbered, Thrifty, fed-thrifty}
 use Rattle.readings.proofs.HeardLaws.{between, within, octet-ends, octet-on, line-over, line-heard, cr-line, listened-count, listened-keeps, ended-stays, last-heard}
 use Rattle.readings.proofs.RuleHeard.{HeardC, ruled-hears, line-hears}
@@ -192,10 +192,6 @@ module _ (R : Rules) where
       let z : length (r .block) ≤ r .line = ltb-false (r .line) (length (r .block)) d in
       sym (ap (λ (t : List ℕ). lastHeard t (hearingOf r)) (drop-of-length-le (r .block) z))))
 
-  -- a reading that begins keeps within its limits
-  pub sound-begun : (status : Bool) → Sound R (begun status)
-  sound-begun status = record { line = omega arith; limit = omega arith; few = omega arith; room = omega arith; fields = fit-none; status = fit-absent }
-
   thrifty-begun : (status : Bool) → Thrifty R (begun status)
   unfolding lastOf
   thrifty-begun status = record { line = omega arith; limit = omega arith; owes = omega arith; notSix = λ z. omega arith }
@@ -212,7 +208,7 @@ module _ (R : Rules) where
   begun-listens rooms status os c few =
       let l = listening (R .quirks) (silent status) os in
       let r = fed R (begun status) os in
-      let t : Tells R l r = fed-tells R (begun status) (silent status) os (sound-begun status) (record { is = said-begun status }) in
+      let t : Tells R l r = fed-tells R (begun status) (silent status) os (begun-sound R status) (record { is = said-begun status }) in
       listens-by R l r t (choose (r .answer) refl (t .is))
     where
       choose : (a : Answer) → fed R (begun status) os .answer ≡ a → Told R (listening (R .quirks) (silent status) os) (fed R (begun status) os) a

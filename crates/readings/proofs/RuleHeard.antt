@@ -29,7 +29,7 @@ use Rattle.folds.specs.declared.Change.{Change}
 use Rattle.folds.specs.declared.Change.the-variants.{Nothing, Status as Headed, Put, Refused as Stops}
 use Rattle.reader.specs.Reading.{Rules, Found, Reading, changed, lined, ruled}
 use Rattle.reader.specs.declared.Answer.{Answer}
-use Rattle.reader.proofs.FitLaws.{all-take, all-get}
+use Rattle.maps.proofs.FitLaws.{all-take, all-get}
 use Rattle.readings.specs.Heard.{Hearing, continued, fieldsIn, heard}
 use Rattle.readings.specs.Listening.{said, hearingOf, refused}
 use Rattle.readings.proofs.Kept.{Sound}

@@ -11,8 +11,7 @@ use Rattle.leaves.specs.Choice.{and-left, and-right}
 use Rattle.leaves.specs.Octets.{sameList}
 use Rattle.leaves.proofs.NameLaws.{same-list-refl, same-list-eq}
 use Rattle.readings.specs.Listening.{said, atBlank}
-use Rattle.readings.proofs.Kept.{fed-later}
-use Rattle.readings.proofs.ListeningLaws.{sound-begun}
+use Rattle.readings.proofs.Kept.{begun-sound, fed-within}
 use Rattle.reader.specs.Reading.{Rules, Reading, fed, begun}
 use Rattle.maps.specs.Said.{Said, pairAt}
 use Rattle.writes.specs.Written.{rebuilt}
@@ -63,7 +62,7 @@ pub tidy-rebuilds : (R : Rules) (status : Bool) (b : List ℕ) → tidy R status
 unfolding tidy
 tidy-rebuilds R status b t =
     let r = fed R (begun status) b in
-    let w = fed-later R (begun status) b (sound-begun R status) .sound in
+    let w = fed-within R (begun status) b (begun-sound R status) in
     after-rebuilds status b r t (R .limit) (w .limit) (said-few r (w .few))
 
 gives-tidy : (m : Said) (r : Reading) → clean m ≡ true → Gives (rebuilt m) m r → tidyAfter (expects (m .status)) (rebuilt m) r ≡ true
