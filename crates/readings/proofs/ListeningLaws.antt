@@ -24,7 +24,8 @@ use Rattle.reader.proofs.OctetSteps.{still}
 use Rattle.readings.specs.Heard.{Hearing, heard}
 use Rattle.readings.specs.Listening.{Listening, silent, lineHeard, listened, listening, lastHeard, said, hearingOf, atBlank, refused, answered, listeningOf}
 use Rattle.readings.proofs.Kept.{Sound, fed-later, begun-sound}
-use Rattle.readings.proofs.Thrift.{numbered, Thrifty, fed-thrifty}
+use Rattle.reader.specs.Answers.{told}
+use Rattle.readings.proofs.Thrift.{Thrifty, fed-thrifty}
 use Rattle.readings.proofs.HeardLaws.{between, within, octet-ends, octet-on, line-over, line-heard, cr-line, listened-count, listened-keeps, ended-stays, last-heard}
 use Rattle.readings.proofs.RuleHeard.{HeardC, ruled-hears, line-hears}
 
@@ -194,7 +195,7 @@ module _ (R : Rules) where
 
   thrifty-begun : (status : Bool) → Thrifty R (begun status)
   unfolding lastOf
-  thrifty-begun status = record { line = omega arith; limit = omega arith; owes = omega arith; notSix = λ z. omega arith }
+  thrifty-begun status = record { sound = begun-sound R status; owes = omega arith; notSix = λ z. omega arith }
 
   said-begun : (status : Bool) → listeningOf (begun status) ≡ silent status
   unfolding said
@@ -216,7 +217,7 @@ module _ (R : Rules) where
       choose More e h = ap refused e
       choose Blank e h = ap refused e
       choose Input e h = ap refused e
-      choose (Refused x) e h = absurd (fed-thrifty R rooms (begun status) os (thrifty-begun status) .notSix (ap numbered e ∙ h c few))
+      choose (Refused x) e h = absurd (fed-thrifty R rooms (begun status) os (thrifty-begun status) .notSix (ap told e ∙ h c few))
 
   lined-block : (r : Reading) (a : Answer) (new : List ℕ) (c : Change) → lined r a new c .block ≡ r .block
   lined-block r a new Nothing = refl
