@@ -26,6 +26,7 @@ use Rattle.readings.specs.Heard.{Hearing}
 use Rattle.readings.specs.Listening.{Listening, silent, listening, lastHeard, said, hearingOf, atBlank, refused, answered, listeningOf}
 use Rattle.readings.specs.Hears.{saysThen, soFar, Told, Hears}
 use Rattle.readings.proofs.Kept.{Sound, Later, fed-later, finished-later, sound-of}
+use Rattle.readings.proofs.Stopped.{feed-leaves, finish-leaves}
 use Rattle.readings.proofs.Cut.{fed-goes, finish-goes}
 use Rattle.readings.proofs.ListeningLaws.{same-listening, Listens, fed-listens, finished-hears, begun-listens, fed-octets}
 use Rattle.readings.proofs.MapSays.{map-says}
@@ -107,17 +108,6 @@ module _ (m : HeaderMap) (b s : List ℕ) (fine : Fine ≡ checkedReading m b s)
       ap (λ (h : Hearing). h .said) (finished-hears R r sound refl (ap refused e)) ∙
       ap (λ (z : Listening). lastHeard (z .line) (z .hearing) .said) (sym so-far)
 
-  block-told : (p : List ℕ) → feeding m b s p .block ≡ pasted b (m .count) (take (feeding m b s p .result .taken) p)
-  unfolding pasted
-  block-told p =
-      let q = fed R r p in
-      let k = length (q .block) - m .count in
-      let e : q .block ≡ take (m .count) b ++ take k p = fed-octets R r p ∙ ap (λ (n : ℕ). take (m .count) b ++ take (length (q .block) - n) p) long in
-      let n : length (q .block) ≡ m .count + length (take k p) = ap length e ∙ length-append (take (m .count) b) (take k p) ∙ ap (λ (j : ℕ). j + length (take k p)) long in
-      rw (fed-goes m b s p fine)
-      (ap (λ (l : List ℕ). l ++ drop (length (q .block)) b) e ∙ append-assoc (take (m .count) b) (take k p) (drop (length (q .block)) b) ∙
-      ap (λ (j : ℕ). take (m .count) b ++ (take k p ++ drop j b)) n)
-
 begun-told : (m : HeaderMap) (limit room : ℕ) (status quirks : Bool) (b s p : List ℕ) (fine : Fine ≡ checkedRooms limit room (length b) (length s))
     → let l = listening quirks (silent status) p in
     l .count ≤ limit → length (l .hearing .said .pairs) ≤ 256 → Told 0 l (feeding (beginning m limit room status quirks b s .result .map) b s p)
@@ -130,4 +120,11 @@ begun-told m limit room status quirks b s p fine c few =
     (begun-listens R (roomy limit room b s fine) status p c few))
 
 pub hears : Hears
-hears = record { fed = λ m b s p e. fed-told m b s e p; finished = finished-told; begun = begun-told; octets = λ m b s p e. block-told m b s e p }
+hears =
+    record {
+      heard = λ m b s p e. fed-told m b s e p;
+      heard-at-end = finished-told;
+      begun = begun-told;
+      left = λ m b s p e. feed-leaves m b s e p;
+      left-at-end = finish-leaves;
+    }

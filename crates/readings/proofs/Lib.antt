@@ -6,4 +6,5 @@ pub mod RuleHeard
 pub mod ListeningLaws
 pub mod MapSays
 pub mod Begun
+pub mod Stopped
 pub mod HearsHold
