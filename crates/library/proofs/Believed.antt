@@ -1,8 +1,20 @@
 -- The pages to believe hold. Assumes nothing.
+use Rattle.readings.proofs.HearsHold.{hears}
+use Rattle.says.proofs.EditsHold.{edits}
 use Rattle.demands.proofs.Answers.{answered as demands-answered}
 use Rattle.records.proofs.Files.{answered as walks-answered}
 use Rattle.library.specs.Library.{Library}
 use Rattle.library.proofs.Contracts.{leaves, maps, calls, exports}
 
 pub believed : Library
-believed = record { leaves = leaves; maps = maps; calls = calls; exports = exports; demands = demands-answered; walks = walks-answered }
+believed =
+    record {
+      leaves = leaves;
+      maps = maps;
+      calls = calls;
+      exports = exports;
+      hears = hears;
+      edits = edits;
+      demands = demands-answered;
+      walks = walks-answered;
+    }

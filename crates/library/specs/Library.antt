@@ -1,4 +1,6 @@
 -- The pages to believe, as one: what each contract hands to a caller, and what is asked of the library. `proofs/Believed` inhabits it. Assumes nothing.
+use Rattle.readings.specs.Hears.{Hears}
+use Rattle.says.specs.Edits.{Edits}
 use Rattle.demands.specs.Demands.{Demands}
 use Rattle.records.specs.Walks.{Walks}
 use Rattle.library.specs.Leaves.{Leaves}
@@ -11,5 +13,7 @@ pub record Library : Type 0 where
   pub maps : Maps
   pub calls : Calls
   pub exports : Exports
+  pub hears : Hears
+  pub edits : Edits
   pub demands : Demands
   pub walks : Walks

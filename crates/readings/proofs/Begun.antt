@@ -38,7 +38,7 @@ module _ (limit room : ℕ) (b s : List ℕ) (fine : Fine ≡ checkedRooms limit
     pub begins-fine : Fine ≡ checkedReading begins b s
     begins-fine = checked-fine true begins (length b) (length s) (good-empty limit room (both-fine .0) (m .table) status quirks Open) (both-fine .1) refl
 
-    begun-map : beginning m limit room status quirks b s .result .map ≡ begins
+    pub begun-map : beginning m limit room status quirks b s .result .map ≡ begins
     unfolding beginning
     begun-map = ap (λ (g : Given Made). g .result .map) (goes-on _ _ (checkedRooms limit room (length b) (length s)) fine)
 
