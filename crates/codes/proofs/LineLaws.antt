@@ -1,5 +1,5 @@
 -- Laws of the code and the reason of a status line's text. Assumes nothing.
-use mathlib.Core.Path.{_≡_, refl, sym, ap, _∙_}
+use mathlib.Core.Path.{_≡_, refl, ap, _∙_}
 use mathlib.Core.Bool.{Bool, true, false}
 use mathlib.Core.List.{List, [], _∷_}
 use mathlib.Core.Option.{Option, none, some}
@@ -8,7 +8,7 @@ use native.Mathlib.Omega.{arith}
 use borrow.Author.Tests.{lt-ltb, le-ltb, ltb-true, ltb-false, le-leb, lt-leb, eq-eqb, ne-eqb}
 use lib.Dec.{ltb}
 use lib.ListN.{length, getD, take, drop, length-take}
-use Rattle.leaves.specs.Choice.{if_then_else_, by-if}
+use Rattle.leaves.specs.Choice.{if_then_else_, by-if, clash}
 use Rattle.leaves.specs.Number.{decimal, isDecimal, contentLength}
 use Rattle.leaves.specs.Octets.{octets, before, sameList}
 use Rattle.leaves.proofs.NameLaws.{apart}
@@ -26,20 +26,14 @@ pub http-is : (s : List ℕ) (t : Bool) → t ≡ sameList (take 5 s) (octets "H
 unfolding isHttp
 http-is s t e = e
 
-none-some : {A : Type 0} (k : ℕ) → none ≡ some k → A
-none-some k e = let z : _≡_ {A = ℕ} 0 1 = cc in absurd (omega arith)
-
-same-some : (j k : ℕ) → some j ≡ some k → j ≡ k
-same-some j k e = cc
-
 -- what an answer tells
 pub told-at : (o : Option ℕ) (k : ℕ) → startTold o ≡ At k → o ≡ some k
-told-at none k e = let z : _≡_ {A = ℕ} 0 1 = cc in absurd (omega arith)
+told-at none k e = clash (cc)
 told-at (some j) k e = let z : j ≡ k = cc in ap some z
 
 pub told-none : (o : Option ℕ) → startTold o ≡ NoStart → o ≡ none
 told-none none e = refl
-told-none (some j) e = let z : _≡_ {A = ℕ} 0 1 = cc in absurd (omega arith)
+told-none (some j) e = clash (cc)
 
 -- the place behind a space
 module _ (k : ℕ) (s : List ℕ) where
@@ -58,9 +52,9 @@ module _ (k : ℕ) (s : List ℕ) where
       choose : (t : Bool) → ltb (k + before 32 (drop k s)) (length s) ≡ t → j ≤ length s
       choose true f =
           let h : k + before 32 (drop k s) < length s = ltb-true _ _ f in
-          let z = same-some (k + before 32 (drop k s) + 1) j (sym (behind-hit (k + before 32 (drop k s)) refl h) ∙ e) in
+          let z : k + before 32 (drop k s) + 1 ≡ j = cc (behind-hit (k + before 32 (drop k s)) refl h) in
           omega (arith, z, h)
-      choose false f = none-some j (sym (behind-none (k + before 32 (drop k s)) refl (ltb-false _ _ f)) ∙ e)
+      choose false f = clash (cc (behind-none (k + before 32 (drop k s)) refl (ltb-false _ _ f)))
 
   pub until-space : (i : ℕ) → i ≡ k + before 32 (drop k s) → take (i - k) (drop k s) ≡ untilSpace (drop k s)
   until-space i e =
@@ -139,8 +133,8 @@ module _ (s : List ℕ) where
   unfolding reasonStart
   start-within k e =
       by-if (λ o. o ≡ some k → k ≤ length s) (isHttp s) (thence (behindSpace 0 s) (λ j. behindSpace j s)) none
-      (λ _. thence-within (behindSpace 0 s)) (λ _ f. none-some k f) e
+      (λ _. thence-within (behindSpace 0 s)) (λ _ f. clash (cc)) e
     where
       thence-within : (o : Option ℕ) → thence o (λ j. behindSpace j s) ≡ some k → k ≤ length s
-      thence-within none f = none-some k f
+      thence-within none f = clash (cc)
       thence-within (some j) f = behind-within j s k f

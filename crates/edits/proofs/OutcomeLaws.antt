@@ -8,7 +8,7 @@ use native.Mathlib.Omega.{arith}
 use lib.Dec.{ltb}
 use borrow.Author.Tests.{ltb-false}
 use lib.ListN.{length, length-take, take-append-drop}
-use Rattle.leaves.specs.Choice.{if-true, if-false}
+use Rattle.leaves.specs.Choice.{if-true, if-false, clash}
 use Rattle.leaves.specs.Paste.{pasted}
 use Rattle.leaves.specs.Sanitise.{sanitised}
 use Rattle.leaves.specs.declared.refusals.Refusal.{Refusal}
@@ -37,13 +37,10 @@ pub data Outcome (m : HeaderMap) (b s : List ℕ) (n : HeaderMap) (t : List ℕ)
   left : (x : Refusal) → g ≡ refusing m b s x → Outcome m b s n t g
   made : Made m b s n t g → Outcome m b s n t g
 
-refused-done : {A : Type 0} (x : Refusal) → Refused x ≡ Done → A
-refused-done x e = let z : _≡_ {A = ℕ} 0 1 = cc in absurd (omega arith)
-
 module _ {m : HeaderMap} {b s : List ℕ} {n : HeaderMap} {t : List ℕ} {g : Given Edited} where
   -- an edit that is done has made its map
   pub made-of : Outcome m b s n t g → g .result .answer ≡ Done → Made m b s n t g
-  made-of (left x e) d = refused-done x (ap (λ (y : Given Edited). y .result .answer) (sym e) ∙ d)
+  made-of (left x e) d = clash (cc (ap (λ (y : Given Edited). y .result .answer) e))
   made-of (made h) d = h
 
   -- a refused edit leaves all
@@ -52,7 +49,7 @@ module _ {m : HeaderMap} {b s : List ℕ} {n : HeaderMap} {t : List ℕ} {g : Gi
       let z : Refused y ≡ Refused x = ap (λ (u : Given Edited). u .result .answer) (sym e) ∙ d in
       let w : y ≡ x = cc in
       rw w at e
-  left-of (made h) x d = refused-done x (sym d ∙ ap (λ (u : Given Edited). u .result .answer) (h .is))
+  left-of (made h) x d = clash (cc (ap (λ (u : Given Edited). u .result .answer) (h .is)))
 
 module _ (m : HeaderMap) (b s : List ℕ) where
   module _ (n : HeaderMap) (t : List ℕ) where

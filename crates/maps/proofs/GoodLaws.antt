@@ -8,7 +8,7 @@ use borrow.Author.Tests.{leb-true, le-leb, lt-leb}
 use lib.Dec.{leb}
 use lib.ListN.{length, getD, take, drop, length-take, drop-of-length-le}
 use lib.Seq.{drop-cons, getD-take}
-use Rattle.leaves.specs.Choice.{and-left, and-right}
+use Rattle.leaves.specs.Choice.{and-left, and-right, clash}
 use Rattle.maps.proofs.GoodBy.{good-facts}
 use Rattle.maps.specs.Good.{goodPlace, goodField, goodFields, good, lent, firstOf, checked, checkedReading, checkedDone, unless, isReading, isDone, Ready}
 use Rattle.maps.specs.declared.BlockOffset.{BlockOffset}
@@ -99,12 +99,12 @@ abbrev Passes : Bool → Bool → Bool → Type 0
 Passes g l r = (g ≡ true) × (l ≡ true) × (r ≡ true)
 
 pub not-refused : {A : Type 0} (x : Refusal) → Fine ≡ Refused x → A
-not-refused x p = let z : _≡_ {A = ℕ} 0 1 = cc in absurd (omega arith)
+not-refused x p = clash (cc)
 
 passes : (g l r : Bool) → Fine ≡ firstOf g l r → Passes g l r
-passes false l r e = not-refused BadMap e
-passes true false r e = not-refused ShortLoan e
-passes true true false e = not-refused WrongPhase e
+passes false l r e = clash (cc)
+passes true false r e = clash (cc)
+passes true true false e = clash (cc)
 passes true true true e = (refl, refl, refl)
 
 pub checked-passes : (ready : Bool) (m : HeaderMap) (b s : ℕ) → Fine ≡ checked ready m b s → Passes (good m) (lent m b s) ready

@@ -6,7 +6,7 @@ use Prim.Native.Nat.{ℕ, min, _≤_, _<_}
 use native.Mathlib.Omega.{arith}
 use borrow.Author.Tests.{le-leb, lt-leb, leb-true, leb-false}
 use lib.Dec.{leb}
-use Rattle.leaves.specs.Choice.{if-true, if-false, and-left, and-right}
+use Rattle.leaves.specs.Choice.{if-true, if-false, and-left, and-right, clash}
 use Rattle.leaves.specs.Octets.{sameList}
 use Rattle.leaves.specs.Number.{decimal, isDecimal, contentLength}
 use Rattle.leaves.specs.Trim.{trimmed, trimEnd, trimStart, leading}
@@ -89,9 +89,6 @@ module _ (m : HeaderMap) (b s : List ℕ) where
         by Missing g = sym (kind-missing m b s g) ∙ ap (λ (vs : List (List ℕ)). IsKind (typeOf vs)) (sym (values-missing m b s (nameOf WarcType) e g))
         by (NotLooked x) g = never-refused m b s (nameOf WarcType) e 0 x g
 
-    same-kind : (j k : ℕ) → IsKind j ≡ IsKind k → j ≡ k
-    same-kind j k q = cc
-
     pub opens-record : (t v : List ℕ) (n k : ℕ) → t ≡ trimmed (handedOut b s (statusPlace m b s)) → versionText t ≡ true
         → v ≡ single m b s (nameOf ContentLength) → isLength v ≡ true → n ≡ contentLength v → kindOf m b s ≡ IsKind k
         → Record n k ≡ opened (saying m b s)
@@ -101,14 +98,11 @@ module _ (m : HeaderMap) (b s : List ℕ) where
         let u : isVersion (saying m b s .status) ≡ true = sym (version-is t p) ∙ q in
         let l : isLength (onlyValue (nameOf ContentLength) (saying m b s)) ≡ true = ap isLength (sym f) ∙ g in
         let c : n ≡ decimal (onlyValue (nameOf ContentLength) (saying m b s)) = length-is v n g h ∙ ap decimal f in
-        let j : k ≡ typeOf (valuesOf (nameOf WarcType) (saying m b s .pairs)) = same-kind _ _ (sym i ∙ kind-is) in
+        let j : k ≡ typeOf (valuesOf (nameOf WarcType) (saying m b s .pairs)) = cc kind-is in
         ap (λ (x : ℕ). Record x k) c ∙ ap (Record (decimal (onlyValue (nameOf ContentLength) (saying m b s)))) j ∙ sym (if-true _ _ u ∙ if-true _ _ l)
 
     pub kind-refuses : {A : Type 0} (x : Refusal) → kindOf m b s ≡ NoKind x → A
-    kind-refuses x i = apart _ x (sym kind-is ∙ i)
-      where
-        apart : {A : Type 0} (k : ℕ) (y : Refusal) → IsKind k ≡ NoKind y → A
-        apart k y q = let z : _≡_ {A = ℕ} 0 1 = cc in absurd (omega arith)
+    kind-refuses x i = clash (cc kind-is)
 
     pub opens-ten : (t v : List ℕ) → t ≡ trimmed (handedOut b s (statusPlace m b s)) → versionText t ≡ true
         → v ≡ single m b s (nameOf ContentLength) → isLength v ≡ false → Refused BadLength ≡ opened (saying m b s)

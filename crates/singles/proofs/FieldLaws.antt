@@ -8,7 +8,7 @@ use native.Mathlib.Omega.{arith}
 use native.Mathlib.Numerals.{add-one}
 use lib.ListN.{length, getD, drop, length-take}
 use lib.Seq.{getD-take}
-use Rattle.leaves.specs.Choice.{if_then_else_}
+use Rattle.leaves.specs.Choice.{if_then_else_, clash}
 use Rattle.leaves.specs.declared.refusals.Refusal.{Refusal}
 use Rattle.maps.specs.Places.{at, noField}
 use Rattle.maps.specs.Good.{live, checkedDone}
@@ -24,21 +24,6 @@ use Rattle.lookups.specs.declared.Found.the-variants.{At, Missing, Refused}
 use Rattle.lookups.proofs.SeekLaws.{find-fine, find-refused}
 use Rattle.lookups.proofs.HandLaws.{slot-fine}
 use Rattle.singles.specs.Single.{valuesOf, onlyOf, onlyValue, single}
-
-at-missing : {A : Type 0} (n : ℕ) → At n ≡ Missing → A
-at-missing n e = let z : _≡_ {A = ℕ} 0 1 = cc in absurd (omega arith)
-
-missing-at : {A : Type 0} (n : ℕ) → Missing ≡ At n → A
-missing-at n e = let z : _≡_ {A = ℕ} 0 1 = cc in absurd (omega arith)
-
-missing-refused : {A : Type 0} (x : Refusal) → Missing ≡ Refused x → A
-missing-refused x e = let z : _≡_ {A = ℕ} 0 1 = cc in absurd (omega arith)
-
-at-refused : {A : Type 0} (n : ℕ) (x : Refusal) → At n ≡ Refused x → A
-at-refused n x e = let z : _≡_ {A = ℕ} 0 1 = cc in absurd (omega arith)
-
-same-at : (n i : ℕ) → At n ≡ At i → n ≡ i
-same-at n i e = cc
 
 abbrev worth : List ℕ → List ℕ → List ℕ → List Field → List (List ℕ)
 worth b s name xs = valuesOf name (map (pairAt b s) xs)
@@ -81,16 +66,16 @@ module _ (b s name : List ℕ) where
   missing-none n (x ∷ xs) e = choose (named b s name x) refl (λ h. missing-none (n + 1) xs h)
     where
       choose : (t : Bool) → named b s name x ≡ t → (seeking (named b s name) (n + 1) xs ≡ Missing → worth b s name xs ≡ []) → worth b s name (x ∷ xs) ≡ []
-      choose true f ih = at-missing n (sym (seek-at x xs n f) ∙ e)
+      choose true f ih = clash (cc (seek-at x xs n f))
       choose false f ih = values-skip x xs f ∙ ih (sym (seek-on x xs n f) ∙ e)
 
   found-hit : (n i : ℕ) (xs : List Field) → seeking (named b s name) n xs ≡ At i → Hit b s name n i xs
-  found-hit n i [] e = missing-at i (sym (seek-none n) ∙ e)
+  found-hit n i [] e = clash (cc (seek-none n))
   found-hit n i (x ∷ xs) e = choose (named b s name x) refl (λ h. found-hit (n + 1) i xs h)
     where
       choose : (t : Bool) → named b s name x ≡ t → (seeking (named b s name) (n + 1) xs ≡ At i → Hit b s name (n + 1) i xs) → Hit b s name n i (x ∷ xs)
       choose true f ih =
-          let z : n ≡ i = same-at n i (sym (seek-at x xs n f) ∙ e) in
+          let z : n ≡ i = cc (seek-at x xs n f) in
           record { index = 0; is = omega arith; inside = omega arith; values = values-hit x xs f }
       choose false f ih =
           let h = ih (sym (seek-on x xs n f) ∙ e) in
@@ -99,11 +84,11 @@ module _ (b s name : List ℕ) where
           record { index = suc (h .index); is = omega arith; inside = omega arith; values = values-skip x xs f ∙ h .values }
 
   seek-refused : {A : Type 0} (xs : List Field) (n : ℕ) (r : Refusal) → seeking (named b s name) n xs ≡ Refused r → A
-  seek-refused [] n r e = missing-refused r (sym (seek-none n) ∙ e)
+  seek-refused [] n r e = clash (cc (seek-none n))
   seek-refused {A} (x ∷ xs) n r e = choose (named b s name x) refl (λ h. seek-refused xs (n + 1) r h)
     where
       choose : (t : Bool) → named b s name x ≡ t → (seeking (named b s name) (n + 1) xs ≡ Refused r → A) → A
-      choose true f ih = at-refused n r (sym (seek-at x xs n f) ∙ e)
+      choose true f ih = clash (cc (seek-at x xs n f))
       choose false f ih = ih (sym (seek-on x xs n f) ∙ e)
 
   hit-values : (n i j : ℕ) (xs : List Field) → Hit b s name n i xs → i ≡ n + j
@@ -187,10 +172,10 @@ module _ (m : HeaderMap) (b s name : List ℕ) where
       by (Bad x) e = absurd (never x (sym g ∙ find-refused m b s name from x e))
 
   found-fine : (from i : ℕ) → finding m b s name from ≡ At i → Fine ≡ checkedDone m b s
-  found-fine from i f = fine-by from (At i) f (λ x e. at-refused i x e)
+  found-fine from i f = fine-by from (At i) f (λ x e. clash (cc))
 
   missing-fine : (from : ℕ) → finding m b s name from ≡ Missing → Fine ≡ checkedDone m b s
-  missing-fine from f = fine-by from Missing f (λ x e. missing-refused x e)
+  missing-fine from f = fine-by from Missing f (λ x e. clash (cc))
 
   pub found-small : (i : ℕ) → finding m b s name 0 ≡ At i → i < 256
   found-small i f = small m b s name (found-fine 0 i f) i f
