@@ -6,7 +6,8 @@ use mathlib.Core.Option.{Option}
 use Prim.Native.Nat.{ℕ}
 use native.Mathlib.Omega.{arith}
 use lib.ListN.{length}
-use Rattle.leaves.specs.Choice.{if_then_else_, if-true, if-false}
+use Rattle.leaves.specs.Choice.{if_then_else_}
+use Rattle.leaves.proofs.ChoiceLaws.{if-true, if-false}
 use Rattle.leaves.specs.Paste.{pasted}
 use Rattle.leaves.proofs.PasteLaws.{pasted-over}
 use Rattle.maps.specs.Maps.{Given, Is}

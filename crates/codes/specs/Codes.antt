@@ -1,5 +1,5 @@
 -- What the calls for status code, reason, content length and record type give. Assumes nothing.
-use mathlib.Core.Path.{_≡_, sym, _∙_}
+use mathlib.Core.Path.{_≡_}
 use mathlib.Core.List.{List, []}
 use mathlib.Core.Option.{Option, none, some, Option·getD}
 use Prim.Native.Nat.{ℕ, _+_}
@@ -48,11 +48,6 @@ phraseAt x w (some k) = (w .0, w .1 + k)
 pub record Phrased (m : HeaderMap) (b s : List ℕ) (x y : ℕ × ℕ) (r : List ℕ) (z : ℕ × ℕ) : Type 0 where
   pub is : r ≡ Option·getD (reasonPhrase (statusText m b s)) []
   pub lies : Same z (phraseAt x (handedAt x y (statusPlace m b s)) (reasonStart (statusText m b s)))
-
--- any two results that such a contract admits coincide
-pub phrased-once : {m : HeaderMap} {b s : List ℕ} {x y : ℕ × ℕ} {r r′ : List ℕ} {z z′ : ℕ × ℕ}
-    → Phrased m b s x y r z → Phrased m b s x y r′ z′ → (r ≡ r′) × Same z z′
-phrased-once h k = (h .is ∙ sym (k .is), (h .lies .0 ∙ sym (k .lies .0), h .lies .1 ∙ sym (k .lies .1)))
 
 -- by what a lookup found: the content length of the value
 abbrev pub lengthTold : HeaderMap → List ℕ → List ℕ → Found → Length

@@ -1,8 +1,6 @@
 -- Two headers that were read to their blank lines, and what resume says of them. Assumes nothing.
 use mathlib.Core.Path.{_≡_, refl, sym, _∙_, ap, subst}
-use mathlib.Core.Bool.{Bool, false}
-use mathlib.Core.List.{List}
-use Prim.Native.Nat.{ℕ}
+use mathlib.Core.Bool.{false}
 use lib.ListN.{length}
 use Rattle.machines.specs.Machine.{joined}
 use Rattle.maps.specs.Good.{checkedDone}
@@ -12,7 +10,6 @@ use Rattle.maps.specs.declared.HeaderMap.{HeaderMap}
 use Rattle.maps.specs.declared.Checked.the-variants.{Fine}
 use Rattle.reader.specs.Calls.{checkedRooms, feeding}
 use Rattle.reader.specs.declared.Answer.{Answer}
-use Rattle.reader.specs.declared.Answer.the-variants.{Blank}
 use Rattle.reader.specs.declared.Fed.{Fed}
 use Rattle.readings.specs.Listening.{Listening, silent, listening, refused}
 use Rattle.readings.specs.Hears.{soFar, saysThen}

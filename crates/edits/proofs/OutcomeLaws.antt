@@ -8,7 +8,7 @@ use native.Mathlib.Omega.{arith}
 use lib.Dec.{ltb}
 use borrow.Author.Tests.{ltb-false}
 use lib.ListN.{length, length-take, take-append-drop}
-use Rattle.leaves.specs.Choice.{if-true, if-false, clash}
+use Rattle.leaves.proofs.ChoiceLaws.{if-true, if-false, clash}
 use Rattle.leaves.specs.Paste.{pasted}
 use Rattle.leaves.specs.Sanitise.{sanitised}
 use Rattle.leaves.specs.declared.refusals.Refusal.{Refusal}

@@ -8,7 +8,8 @@ use lib.Dec.{eqb, leb, ltb}
 use lib.ListN.{length, getD, drop, length-append}
 use lib.Seq.{drop-at, drop-drop, drop-append-add, getD-drop}
 use borrow.Author.Tests.{eq-eqb, lt-ltb, le-ltb}
-use Rattle.leaves.specs.Choice.{if_then_else_, if-false, and-both}
+use Rattle.leaves.specs.Choice.{if_then_else_}
+use Rattle.leaves.proofs.ChoiceLaws.{if-false, and-both}
 use Rattle.leaves.specs.Refusals.{number, refusal}
 use Rattle.leaves.proofs.RefusalLaws.{refusal-number}
 use Rattle.leaves.specs.declared.refusals.Refusal.{Refusal}

@@ -7,7 +7,7 @@ use native.Mathlib.Nat.{add-zero}
 use native.Mathlib.Omega.{arith}
 use lib.Dec.{eqb, leb, ltb}
 use borrow.Author.Tests.{eqb-true}
-use Rattle.leaves.specs.Choice.{and-left}
+use Rattle.leaves.proofs.ChoiceLaws.{and-left}
 use lib.ListN.{length, getD, drop, length-append}
 use lib.Seq.{getD-drop}
 use Rattle.leaves.specs.Paste.{pasted}

@@ -6,7 +6,8 @@ use Prim.Native.Nat.{ℕ, _-_, _≤_}
 use native.Mathlib.Omega.{arith}
 use lib.ListN.{length, take, length-map}
 use lib.Seq.{length-take-le}
-use Rattle.leaves.specs.Choice.{if_then_else_, and-false}
+use Rattle.leaves.specs.Choice.{if_then_else_}
+use Rattle.leaves.proofs.ChoiceLaws.{and-false}
 use Rattle.maps.specs.Good.{checkedDone, live}
 use Rattle.maps.specs.declared.HeaderMap.{HeaderMap}
 use Rattle.leaves.specs.declared.refusals.Refusal.{Refusal}

@@ -5,7 +5,7 @@ use mathlib.Core.List.{List, [], _∷_, map}
 use Prim.Native.Nat.{ℕ, suc, _+_, _-_, _≤_, _<_}
 use lib.ListN.{length, getD, take, drop}
 use Rattle.leaves.specs.Octets.{sameList}
-use Rattle.leaves.specs.Choice.{and-false}
+use Rattle.leaves.proofs.ChoiceLaws.{and-false}
 use Rattle.maps.specs.Places.{at, noField}
 use Rattle.lookups.proofs.SeekLaws.{live-cons, live-end}
 use Rattle.maps.specs.declared.Field.{Field}

@@ -4,7 +4,7 @@ use mathlib.Core.Bool.{true, _&&_, false≢true}
 use mathlib.Core.List.{List, [], _∷_}
 use mathlib.Core.Option.{Option, none, some}
 use Prim.Native.Nat.{ℕ}
-use Rattle.leaves.specs.Choice.{and-left, and-right}
+use Rattle.leaves.proofs.ChoiceLaws.{and-left, and-right}
 use Rattle.leaves.specs.Octets.{sameList}
 use Rattle.leaves.proofs.NameLaws.{same-list-refl, same-list-eq}
 use Rattle.maps.specs.Said.{Pair, Said}

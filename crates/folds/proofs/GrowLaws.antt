@@ -12,7 +12,7 @@ use lib.Seq.{set-split, length-take-le}
 use Rattle.leaves.specs.Trim.{trimmed}
 use Rattle.leaves.specs.Paste.{pasted}
 use Rattle.leaves.proofs.PasteLaws.{pasted-more}
-use Rattle.leaves.specs.Choice.{if-true, if-false}
+use Rattle.leaves.proofs.ChoiceLaws.{if-true, if-false}
 use Rattle.folds.specs.Rule.{Ruling, plain, putField, grown, regrown, folded, split, rule4, continues, trimmedAt}
 use Rattle.maps.specs.Places.{part, inStore, readField}
 use Rattle.leaves.specs.Octets.{before}

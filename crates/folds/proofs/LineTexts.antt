@@ -13,7 +13,7 @@ use Rattle.leaves.specs.Trim.{trimEnd, endAfter}
 use Rattle.leaves.specs.Octets.{sameList}
 use Rattle.leaves.specs.Paste.{pasted}
 use Rattle.leaves.proofs.PasteLaws.{Copying, copy-start, copy-step, copy-end}
-use Rattle.leaves.specs.Choice.{and-false}
+use Rattle.leaves.proofs.ChoiceLaws.{and-false}
 use Rattle.folds.specs.Rule.{continues}
 use Rattle.leaves.specs.Octets.{all}
 

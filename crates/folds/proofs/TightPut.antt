@@ -8,7 +8,7 @@ use native.Mathlib.Omega.{arith}
 use borrow.Author.Tests.{ne-eqb, ltb-true, not-true}
 use lib.Dec.{ltb}
 use lib.ListN.{length, getD, drop}
-use Rattle.leaves.specs.Choice.{and-left, and-right}
+use Rattle.leaves.proofs.ChoiceLaws.{and-left, and-right}
 use Rattle.lines.specs.Line.{tight}
 use Rattle.leaves.specs.Octets.{before}
 use Rattle.lines.proofs.TightLaws.{Tight, tight-says, key-starts, key-ends, value-starts, value-ends}

@@ -6,7 +6,7 @@ use Prim.Native.Nat.{ℕ}
 use lib.Dec.{eqb}
 use lib.ListN.{take, drop, take-append-drop}
 use borrow.Author.Tests.{eqb-true}
-use Rattle.leaves.specs.Choice.{by-if, and-left, and-right, and-both}
+use Rattle.leaves.proofs.ChoiceLaws.{by-if, and-left, and-right, and-both, or-second}
 use Rattle.leaves.specs.Class.{token, text as isText}
 use Rattle.leaves.specs.Octets.{octets, all, sameList}
 use Rattle.leaves.proofs.NameLaws.{same-list-eq}
@@ -130,10 +130,6 @@ module _ (x : ℕ) (xs : List ℕ) where
   unfolding all
   texts-none e r = record { text = []; rest = r .rest; right = refl; onward = r .onward; is = starts x 13 xs (10 ∷ r .rest) e (r .is) }
 
-  or-right-true : (a b : Bool) → b ≡ true → (a || b) ≡ true
-  or-right-true true b e = refl
-  or-right-true false b e = e
-
   -- one octet back
   first-back : Rest (opened x) xs → Lines (x ∷ xs)
   unfolding opened
@@ -146,7 +142,7 @@ module _ (x : ℕ) (xs : List ℕ) where
   back First = first-back
   back Line =
       by-if (λ (s : Stage). Rest s xs → Folds (x ∷ xs)) (eqb x 32) _ _ (λ e. folds-more (ap (λ (b : Bool). b || eqb x 9) e))
-      (λ e. by-if (λ (s : Stage). Rest s xs → Folds (x ∷ xs)) (eqb x 9) _ _ (λ f. folds-more (or-right-true (eqb x 32) (eqb x 9) f)) (λ f r. folds-none (first-back r)))
+      (λ e. by-if (λ (s : Stage). Rest s xs → Folds (x ∷ xs)) (eqb x 9) _ _ (λ f. folds-more (or-second (eqb x 32) (eqb x 9) f)) (λ f r. folds-none (first-back r)))
   back Key =
       by-if (λ (s : Stage). Rest s xs → Keys (x ∷ xs)) (token x) _ _ keys-more
       (λ e. by-if (λ (s : Stage). Rest s xs → Keys (x ∷ xs)) (eqb x 58) _ _ keys-none (λ f r. absurd r))

@@ -10,7 +10,7 @@ use borrow.Author.Tests.{eqb-true}
 use lib.Dec.{eqb}
 use lib.ListN.{length, length-append}
 use lib.Seq.{append-snoc}
-use Rattle.leaves.specs.Choice.{and-left, and-right}
+use Rattle.leaves.proofs.ChoiceLaws.{and-left, and-right}
 use Rattle.leaves.specs.Class.{token, text, blank}
 use Rattle.leaves.specs.Octets.{octets, has, all, sameList}
 use Rattle.leaves.specs.Trim.{leading, trimStart, trimEnd, trimmed}

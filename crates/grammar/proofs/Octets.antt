@@ -8,7 +8,7 @@ use lib.Dec.{eqb}
 use lib.ListN.{length}
 use lib.Seq.{take-length}
 use borrow.Author.Tests.{ne-eqb}
-use Rattle.leaves.specs.Choice.{and-left, and-right}
+use Rattle.leaves.proofs.ChoiceLaws.{and-left, and-right}
 use Rattle.leaves.specs.Class.{token, text, blank, separator}
 use Rattle.leaves.specs.Octets.{has, all}
 use Rattle.leaves.specs.Trim.{leading, endAfter, trimEnd, trimStart, trimmed}

@@ -4,7 +4,8 @@ use mathlib.Core.Bool.{Bool, true, false, _&&_, _||_, false≢true}
 use mathlib.Core.List.{List, [], _∷_, _++_, append-assoc}
 use Prim.Native.Nat.{ℕ}
 use lib.Dec.{eqb}
-use Rattle.leaves.specs.Choice.{if_then_else_, if-true, if-false, and-left, and-right}
+use Rattle.leaves.specs.Choice.{if_then_else_}
+use Rattle.leaves.proofs.ChoiceLaws.{if-true, if-false, and-left, and-right}
 use Rattle.leaves.specs.Class.{token, text, separator}
 use Rattle.leaves.specs.Octets.{octets, has, all, sameList}
 use Rattle.leaves.proofs.NameLaws.{same-list-eq}

@@ -1,3 +1,4 @@
+pub mod ChoiceLaws
 pub mod Table
 pub mod ClassLaws
 pub mod TrimLaws

@@ -8,7 +8,7 @@ use borrow.Author.Tests.{eq-eqb, ne-eqb, eqb-true}
 use lib.Dec.{eqb}
 use lib.ListN.{length, getD, drop, drop-of-length-le}
 use lib.Seq.{drop-cons}
-use Rattle.leaves.specs.Choice.{and-left, and-right, and-false}
+use Rattle.leaves.proofs.ChoiceLaws.{and-left, and-right, and-false}
 use Rattle.leaves.specs.Name.{lowered, sameName}
 use Rattle.leaves.specs.Octets.{sameList}
 

@@ -12,7 +12,7 @@ use lib.Seq.{drop-cons}
 use Rattle.leaves.specs.Class.{digit}
 use Rattle.leaves.specs.Number.{decimalFrom, isDecimal, contentLength}
 use Rattle.leaves.specs.Octets.{all}
-use Rattle.leaves.specs.Choice.{and-left, and-right}
+use Rattle.leaves.proofs.ChoiceLaws.{and-left, and-right}
 
 pub digit-range : (x : ℕ) → digit x ≡ true → (48 ≤ x) × (x ≤ 57)
 unfolding digit

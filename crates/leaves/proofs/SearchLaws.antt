@@ -10,7 +10,7 @@ use borrow.Author.Tests.{eqb-true, eq-eqb}
 use lib.Dec.{eqb}
 use lib.ListN.{length, getD, take, drop, length-drop, drop-of-length-le}
 use lib.Seq.{drop-cons, drop-drop, drop-at, getD-drop, take-suc, take-add, length-take-le}
-use Rattle.leaves.specs.Choice.{or-assoc, or-false, or-left, or-right}
+use Rattle.leaves.proofs.ChoiceLaws.{or-assoc, or-false, or-left, or-right}
 use Rattle.leaves.specs.Octets.{has, before, all, Passed}
 
 module _ (c : ℕ) where

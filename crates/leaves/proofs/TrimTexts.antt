@@ -6,7 +6,7 @@ use Prim.Native.Nat.{ℕ, zero, suc, min, _+_, _-_, _≤_}
 use native.Mathlib.Omega.{arith}
 use lib.ListN.{length, take, drop, length-take, length-drop}
 use lib.Seq.{take-append-le, drop-append-le, drop-drop}
-use Rattle.leaves.specs.Choice.{and-left, and-right}
+use Rattle.leaves.proofs.ChoiceLaws.{and-left, and-right}
 use Rattle.leaves.specs.Class.{blank}
 use Rattle.leaves.specs.Octets.{all, has}
 use Rattle.leaves.specs.Trim.{leading, trimEnd, trimStart, trimmed, endAfter}

@@ -8,7 +8,7 @@ use borrow.Author.Tests.{ne-eqb, eqb-true, leb-true, ltb-true}
 use lib.Dec.{eqb, leb, ltb}
 use lib.ListN.{length, getD, take, drop, length-drop}
 use lib.Seq.{take-all, getD-take, getD-drop, length-take-le}
-use Rattle.leaves.specs.Choice.{and-left, and-right}
+use Rattle.leaves.proofs.ChoiceLaws.{and-left, and-right}
 use Rattle.leaves.specs.Octets.{has}
 use Rattle.leaves.specs.Class.{blank}
 use Rattle.leaves.specs.Trim.{leading, trimStart, trimEnd}

@@ -9,7 +9,7 @@ use lib.Dec.{ltb}
 use borrow.Author.Tests.{lt-ltb, le-ltb, ltb-true, ltb-false}
 use lib.ListN.{getD}
 use lib.Seq.{getD-take}
-use Rattle.leaves.specs.Choice.{if-true, if-false, clash}
+use Rattle.leaves.proofs.ChoiceLaws.{if-true, if-false, clash}
 use Rattle.leaves.specs.declared.refusals.Refusal.{Refusal}
 use Rattle.maps.specs.Places.{noField, Within, Same, Parted}
 use Rattle.maps.specs.Good.{Fits, Fit, FitStatus, fit-absent, fit-at, checkedDone}

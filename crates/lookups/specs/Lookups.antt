@@ -1,5 +1,5 @@
 -- What a lookup finds, and what the lookups hand out. Assumes nothing.
-use mathlib.Core.Path.{_≡_, sym, _∙_}
+use mathlib.Core.Path.{_≡_}
 use mathlib.Core.Bool.{Bool}
 use mathlib.Core.List.{List, [], _∷_}
 use mathlib.Core.Option.{Option, none, some}
@@ -78,8 +78,3 @@ handedAt x y (some p) = begins x y p
 pub record Handed (b s : List ℕ) (x y : ℕ × ℕ) (p : Option Place) (r : List ℕ) (z : ℕ × ℕ) : Type 0 where
   pub is : r ≡ handedOut b s p
   pub lies : Same z (handedAt x y p)
-
--- any two results that such a contract admits coincide
-pub handed-once : {b s : List ℕ} {x y : ℕ × ℕ} {p : Option Place} {r r′ : List ℕ} {z z′ : ℕ × ℕ}
-    → Handed b s x y p r z → Handed b s x y p r′ z′ → (r ≡ r′) × Same z z′
-handed-once h k = (h .is ∙ sym (k .is), (h .lies .0 ∙ sym (k .lies .0), h .lies .1 ∙ sym (k .lies .1)))

@@ -6,7 +6,7 @@ use Prim.Native.Nat.{ℕ, _≤_}
 use native.Mathlib.Omega.{arith}
 use borrow.Author.Tests.{leb-true, le-leb}
 use lib.Dec.{leb}
-use Rattle.leaves.specs.Choice.{and-left, and-right, and-both}
+use Rattle.leaves.proofs.ChoiceLaws.{and-left, and-right, and-both}
 use Rattle.maps.specs.Good.{goodPlace, goodStatus, goodField, goodFields, goodRooms, goodCounts, good, live, lent, Ready}
 use Rattle.maps.specs.Good.{Fits, in-block, in-store, Fit, FitAll, fit-none, fit-more, FitStatus, fit-absent, fit-at}
 use Rattle.maps.specs.Maps.{empty}

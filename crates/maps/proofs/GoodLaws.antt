@@ -8,7 +8,7 @@ use borrow.Author.Tests.{leb-true, le-leb, lt-leb}
 use lib.Dec.{leb}
 use lib.ListN.{length, getD, take, drop, length-take, drop-of-length-le}
 use lib.Seq.{drop-cons, getD-take}
-use Rattle.leaves.specs.Choice.{and-left, and-right, clash}
+use Rattle.leaves.proofs.ChoiceLaws.{and-left, and-right, clash}
 use Rattle.maps.proofs.GoodBy.{good-facts}
 use Rattle.maps.specs.Good.{goodPlace, goodField, goodFields, good, lent, firstOf, checked, checkedReading, checkedDone, unless, isReading, isDone, Ready}
 use Rattle.maps.specs.declared.BlockOffset.{BlockOffset}

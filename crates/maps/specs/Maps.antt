@@ -1,5 +1,5 @@
 -- Maps made from nothing or emptied, and the form of every call's contract. Assumes nothing.
-use mathlib.Core.Path.{_≡_, sym, _∙_}
+use mathlib.Core.Path.{_≡_}
 use mathlib.Core.Bool.{Bool, false}
 use mathlib.Core.List.{List}
 use Prim.Native.Nat.{ℕ}
@@ -45,7 +45,3 @@ pub record Is {A : Type 0} (g : Given A) (r : A) (b s : List ℕ) : Type 0 where
   pub result : r ≡ g .result
   pub block : b ≡ g .block
   pub store : s ≡ g .store
-
--- any two results that such a contract admits coincide
-pub coincide : {A : Type 0} {g : Given A} {r r′ : A} {b b′ s s′ : List ℕ} → Is g r b s → Is g r′ b′ s′ → (r ≡ r′) × (b ≡ b′) × (s ≡ s′)
-coincide p q = (p .result ∙ sym (q .result), p .block ∙ sym (q .block), p .store ∙ sym (q .store))

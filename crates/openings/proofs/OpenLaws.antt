@@ -7,7 +7,7 @@ use Prim.Native.Nat.{ℕ, min, _≤_, _<_}
 use native.Mathlib.Omega.{arith}
 use borrow.Author.Tests.{le-leb, lt-leb, leb-true, leb-false}
 use lib.Dec.{leb}
-use Rattle.leaves.specs.Choice.{if-true, if-false, and-left, and-right, clash}
+use Rattle.leaves.proofs.ChoiceLaws.{if-true, if-false, and-left, and-right, clash}
 use Rattle.leaves.specs.Octets.{sameList}
 use Rattle.leaves.specs.Number.{decimal, isDecimal, contentLength}
 use Rattle.leaves.specs.Trim.{trimmed, trimEnd, trimStart, leading}

@@ -3,7 +3,7 @@ use mathlib.Core.Path.{_≡_, refl}
 use mathlib.Core.Bool.{Bool, true, false, _&&_}
 use Prim.Native.Nat.{ℕ}
 use lib.Dec.{leb}
-use Rattle.leaves.specs.Choice.{clash}
+use Rattle.leaves.proofs.ChoiceLaws.{clash}
 use Rattle.maps.specs.Good.{goodRooms}
 use Rattle.maps.specs.declared.Checked.the-variants.{Fine}
 use Rattle.reader.specs.Calls.{firstRooms, checkedRooms}

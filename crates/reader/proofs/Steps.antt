@@ -5,7 +5,7 @@ use mathlib.Core.List.{List, [], _∷_, _++_}
 use Prim.Native.Nat.{ℕ}
 use borrow.Author.Tests.{eqb-false}
 use lib.ListN.{length}
-use Rattle.leaves.specs.Choice.{by-if}
+use Rattle.leaves.proofs.ChoiceLaws.{by-if}
 use Rattle.leaves.specs.Refusals.{refusal}
 use Rattle.folds.specs.declared.Change.{Change}
 use Rattle.folds.specs.declared.Change.the-variants.{Nothing, Status as Headed, Put, Refused as Stops}

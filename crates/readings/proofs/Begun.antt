@@ -6,7 +6,7 @@ use Prim.Native.Nat.{ℕ, _≤_}
 use borrow.Author.Tests.{leb-true}
 use lib.Dec.{leb}
 use lib.ListN.{length}
-use Rattle.leaves.specs.Choice.{and-left, and-right}
+use Rattle.leaves.proofs.ChoiceLaws.{and-left, and-right}
 use Rattle.maps.specs.Good.{goodRooms, checkedReading}
 use Rattle.maps.specs.Maps.{empty, Given}
 use Rattle.maps.specs.declared.Phase.the-variants.{Reading as Open}

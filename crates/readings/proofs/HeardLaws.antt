@@ -1,6 +1,6 @@
 -- Laws of rule 4 in octets: what each kind of line says, and how a line of a text is listened to. Assumes nothing.
 use mathlib.Core.Path.{_≡_, refl, sym, _∙_, ap}
-use mathlib.Core.Bool.{Bool, true, false, _&&_, _||_, false≢true}
+use mathlib.Core.Bool.{Bool, true, false, _&&_, false≢true}
 use mathlib.Core.List.{List, [], _∷_, _++_}
 use mathlib.Core.Option.{Option, some}
 use Prim.Native.Nat.{ℕ, suc, _+_, _-_, _≤_, _<_}
@@ -9,7 +9,8 @@ use borrow.Author.Tests.{lt-ltb, le-ltb, ltb-true, ltb-false, ne-eqb}
 use lib.Dec.{eqb, ltb}
 use lib.ListN.{length, drop, getD, length-append, length-drop}
 use lib.Seq.{take-at, drop-append-add, getD-at, getD-drop, append-snoc}
-use Rattle.leaves.specs.Choice.{if_then_else_, by-if, if-true, if-false, or-left, or-right}
+use Rattle.leaves.specs.Choice.{if_then_else_}
+use Rattle.leaves.proofs.ChoiceLaws.{by-if, if-true, if-false, or-left, or-right, or-second}
 use Rattle.leaves.specs.Class.{blank}
 use Rattle.leaves.specs.Octets.{has, all, sameList}
 use Rattle.leaves.specs.Trim.{trimmed}
@@ -146,13 +147,9 @@ module _ (quirks : Bool) where
       let e : length p ≡ length p + 1 - 1 = omega arith in
       rw (q, lt-ltb 0 (length p + 1) (omega arith), getD-at p 13 [] 0 (length p + 1 - 1) e)
 
-  or-true : (b : Bool) → (b || true) ≡ true
-  or-true true = refl
-  or-true false = refl
-
   lf-ends : (cr : Bool) → cr ≡ true → endsLine quirks cr 10 ≡ true
   unfolding endsLine
-  lf-ends cr e = rw e (or-true quirks)
+  lf-ends cr e = rw e (or-second quirks true refl)
 
   others-on : (cr : Bool) (x : ℕ) → eqb x 10 ≡ false → endsLine quirks cr x ≡ false
   unfolding endsLine

@@ -1,12 +1,12 @@
 -- The statements of `Hears` hold. Assumes nothing.
 use mathlib.Core.Path.{_≡_, refl, sym, _∙_, ap, subst}
 use mathlib.Core.Bool.{Bool, true, false}
-use mathlib.Core.List.{List, _++_, map, append-assoc}
+use mathlib.Core.List.{List, _++_, map}
 use Prim.Native.Nat.{ℕ, _+_, _-_, _≤_}
 use native.Mathlib.Omega.{arith}
-use lib.ListN.{length, take, drop, length-append, take-append-drop}
+use lib.ListN.{length, take, drop, take-append-drop}
 use lib.Seq.{length-take-le}
-use Rattle.leaves.specs.Paste.{lay, pasted}
+use Rattle.leaves.specs.Paste.{lay}
 use Rattle.leaves.proofs.LayLaws.{lay-take}
 use Rattle.maps.specs.Good.{Ready, checkedReading}
 use Rattle.maps.specs.Maps.{Given}
@@ -28,7 +28,7 @@ use Rattle.readings.specs.Hears.{saysThen, soFar, Told, Hears}
 use Rattle.readings.proofs.Kept.{Sound, Later, fed-later, finished-later, sound-of}
 use Rattle.readings.proofs.Stopped.{feed-leaves, finish-leaves}
 use Rattle.readings.proofs.Cut.{fed-goes, finish-goes}
-use Rattle.readings.proofs.ListeningLaws.{same-listening, Listens, fed-listens, finished-hears, begun-listens, fed-octets}
+use Rattle.readings.proofs.ListeningLaws.{same-listening, Listens, fed-listens, finished-hears, begun-listens}
 use Rattle.readings.proofs.MapSays.{map-says}
 use Rattle.readings.proofs.Begun.{roomy, begins, begunRules, begins-fine, fed-begun}
 

@@ -7,10 +7,9 @@ use native.Mathlib.Omega.{arith}
 use borrow.Author.Tests.{eqb-true, eqb-false, ltb-true, ltb-false, not-true}
 use lib.ListN.{length, take, drop, length-append, length-drop, drop-of-length-le}
 use lib.Seq.{drop-length, drop-append-le, append-snoc, take-nil, take-all}
-use Rattle.leaves.specs.Choice.{by-if}
+use Rattle.leaves.proofs.ChoiceLaws.{by-if}
 use Rattle.leaves.specs.Refusals.{number}
 use Rattle.maps.specs.Places.{lastOf}
-use Rattle.maps.specs.Good.{fit-none, fit-absent}
 use Rattle.maps.specs.Said.{pairAt, statusAt}
 use Rattle.maps.proofs.TextLaws.{pairs-front, status-front}
 use Rattle.maps.proofs.SaidLaws.{said-same}
@@ -26,7 +25,7 @@ use Rattle.readings.specs.Listening.{Listening, silent, lineHeard, liste
 use Rattle.readings.proofs.Kept.{Sound, fed-later, begun-sound}
 use Rattle.reader.specs.Answers.{told}
 use Rattle.readings.proofs.Thrift.{Thrifty, fed-thrifty}
-use Rattle.readings.proofs.HeardLaws.{between, within, octet-ends, octet-on, line-over, line-heard, cr-line, listened-count, listened-keeps, ended-stays, last-heard}
+use Rattle.readings.proofs.HeardLaws.{between, octet-ends, octet-on, line-over, line-heard, cr-line, listened-count, listened-keeps, ended-stays, last-heard}
 use Rattle.readings.proofs.RuleHeard.{HeardC, ruled-hears, line-hears}
 
 pub same-listening : (c c′ : ℕ) (l l′ : List ℕ) (h h′ : Hearing) (e : Bool) → c ≡ c′ → l ≡ l′ → h ≡ h′

@@ -9,7 +9,7 @@ use borrow.Author.Tests.{eqb-true, eqb-false, ltb-false}
 use lib.Dec.{ltb}
 use lib.ListN.{length, take, drop, length-append, length-drop, length-map, take-append-drop}
 use lib.Seq.{take-all, take-length, drop-length, drop-append-le, drop-drop, take-suc}
-use Rattle.leaves.specs.Choice.{by-if, if-true, if-false}
+use Rattle.leaves.proofs.ChoiceLaws.{by-if, if-true, if-false}
 use Rattle.leaves.specs.Octets.{before}
 use Rattle.leaves.specs.Refusals.{number}
 use Rattle.leaves.specs.Trim.{trimmed}

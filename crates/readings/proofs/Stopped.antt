@@ -1,27 +1,26 @@
 -- What a reading leaves in the map and in the loans, whatever its answer. Assumes nothing.
 use mathlib.Core.Path.{_≡_, refl, sym, _∙_, ap}
-use mathlib.Core.Bool.{Bool, true, false, false≢true}
-use mathlib.Core.List.{List, [], _∷_, _++_, append-assoc, append-nil}
+use mathlib.Core.Bool.{true, false, false≢true}
+use mathlib.Core.List.{List, [], _++_, append-assoc, append-nil}
 use Prim.Native.Nat.{ℕ, _+_, _-_, _≤_}
 use native.Mathlib.Omega.{arith}
-use lib.ListN.{length, take, drop, length-append, take-append-drop}
+use lib.ListN.{length, take, drop, length-append}
 use lib.Seq.{length-take-le, take-nil, drop-append-seam}
-use Rattle.leaves.specs.Choice.{by-if}
+use Rattle.leaves.proofs.ChoiceLaws.{by-if}
 use Rattle.leaves.specs.Paste.{lay, pasted}
 use Rattle.leaves.specs.declared.refusals.Refusal.{Refusal}
 use Rattle.maps.specs.Good.{Ready, checkedReading}
-use Rattle.maps.specs.Maps.{empty, Given}
+use Rattle.maps.specs.Maps.{empty}
 use Rattle.maps.specs.declared.Phase.the-variants.{Done}
 use Rattle.maps.specs.declared.HeaderMap.{HeaderMap}
 use Rattle.maps.specs.declared.Checked.the-variants.{Fine}
 use Rattle.maps.proofs.GoodLaws.{ready-of}
 use Rattle.folds.specs.declared.Change.{Change}
 use Rattle.folds.specs.declared.Change.the-variants.{Nothing, Status as Headed, Put, Refused as Stops}
-use Rattle.reader.specs.Reading.{Rules, Reading, goes, lined, ruled, fed, finished}
+use Rattle.reader.specs.Reading.{Rules, Reading, lined, ruled, fed, finished}
 use Rattle.reader.specs.Calls.{rulesOf, readingOf, mapOf, gives, feeding, finishing}
 use Rattle.reader.specs.declared.Answer.{Answer}
 use Rattle.reader.specs.declared.Answer.the-variants.{More, Blank, Input, Refused}
-use Rattle.reader.specs.declared.Fed.{Fed}
 use Rattle.reader.proofs.Steps.{unrefused, lined-block, Keeps, fed-keeps, finished-keeps}
 use Rattle.readings.specs.Hears.{Leaves}
 use Rattle.readings.proofs.Cut.{fed-goes, finish-goes}

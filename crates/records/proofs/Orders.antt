@@ -6,7 +6,7 @@ use Prim.Native.Nat.{ℕ, zero, suc, _+_, _≤_, _<_}
 use native.Mathlib.Omega.{arith}
 use lib.Dec.{eqb}
 use lib.ListN.{length}
-use Rattle.leaves.specs.Choice.{by-if}
+use Rattle.leaves.proofs.ChoiceLaws.{by-if}
 use Rattle.readings.specs.Listening.{said}
 use Rattle.reader.specs.Reading.{Rules, Reading, step}
 use Rattle.reader.specs.Reading.{begun as begins}

@@ -5,10 +5,9 @@ use mathlib.Core.List.{List, [], _∷_}
 use mathlib.Core.Option.{Option, none, some}
 use Prim.Native.Nat.{ℕ}
 use native.Mathlib.Omega.{arith}
-use borrow.Author.Tests.{eqb-true, eq-eqb, eqb-false}
-use lib.Dec.{eqb}
+use borrow.Author.Tests.{eqb-true}
 use lib.ListN.{length}
-use Rattle.leaves.specs.Choice.{if_then_else_, if-true, if-false}
+use Rattle.leaves.proofs.ChoiceLaws.{if-true, if-false}
 use Rattle.leaves.specs.Octets.{octets, sameList}
 use Rattle.leaves.proofs.NameLaws.{same-list-refl, same-list-eq}
 use Rattle.maps.specs.Good.{checkedDone}
@@ -19,7 +18,7 @@ use Rattle.codes.specs.Line.{statusCode}
 use Rattle.codes.specs.Told.{codeTold}
 use Rattle.codes.specs.Codes.{coding}
 use Rattle.codes.proofs.MapLaws.{coding-says}
-use Rattle.singles.specs.Single.{valuesOf, onlyOf, onlyValue}
+use Rattle.singles.specs.Single.{valuesOf, onlyOf}
 use Rattle.resume.specs.Answers.{answer}
 use Rattle.resume.specs.Resume.{isPartial, tagOf, tagged, resuming, Appends}
 use Rattle.resume.proofs.ResumeLaws.{tags-first, tags-second, tags-same, tags-differ}

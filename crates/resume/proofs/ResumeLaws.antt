@@ -5,7 +5,8 @@ use mathlib.Core.List.{List}
 use Prim.Native.Nat.{ℕ}
 use borrow.Author.Tests.{eq-eqb, ne-eqb}
 use lib.ListN.{length}
-use Rattle.leaves.specs.Choice.{if_then_else_, if-true, if-false}
+use Rattle.leaves.specs.Choice.{if_then_else_}
+use Rattle.leaves.proofs.ChoiceLaws.{if-true, if-false}
 use Rattle.leaves.specs.Octets.{octets, sameList}
 use Rattle.leaves.specs.declared.refusals.Refusal.{Refusal}
 use Rattle.maps.specs.Good.{checkedDone}

@@ -7,6 +7,7 @@ use native.Mathlib.Omega.{arith}
 use lib.ListN.{length}
 use Rattle.leaves.specs.Paste.{pasted}
 use Rattle.leaves.specs.Sanitise.{sanitised}
+use Rattle.leaves.proofs.LayLaws.{lay-take}
 use Rattle.leaves.specs.declared.refusals.Refusal.{Refusal}
 use Rattle.maps.specs.Places.{at}
 use Rattle.maps.specs.Good.{live, checkedDone, Fits, in-store, FitAll, fit-at}
@@ -28,7 +29,7 @@ use Rattle.edits.proofs.OutcomeLaws.{Made, Outcome, left, made, made-of, left-o
 use Rattle.says.specs.Says.{Ask, ask-set, ask-append, ask-remove, ask-status, asked, askSaid, after, usable}
 use Rattle.says.proofs.KeptLaws.{place-kept}
 use Rattle.says.proofs.AgainLaws.{again, pasted-long, new-fits}
-use Rattle.says.proofs.MadeSays.{laid-live, kept-says, set-made, append-made, status-made}
+use Rattle.says.proofs.MadeSays.{kept-says, set-made, append-made, status-made}
 
 -- An edit never disturbs the octets of another field: what any place of the map says stays.
 module _ {m : HeaderMap} {b s : List ℕ} {n : HeaderMap} {t : List ℕ} {g : Given Edited} where
@@ -55,7 +56,7 @@ module _ (m : HeaderMap) (b s : List ℕ) where
   fields-again {t} {g} xs mark edited d up h f =
       let w = ready-of _ m b s (d .fine) in
       made-usable d
-      (again m b s (d .fine) _ _ _ mark edited (d .few) h (status-mono (omega arith) up (w .status)) (rw (laid-live (m .table) xs) f) (pasted s (m .mark) t) (long d))
+      (again m b s (d .fine) _ _ _ mark edited (d .few) h (status-mono (omega arith) up (w .status)) (rw (lay-take (m .table) xs) f) (pasted s (m .mark) t) (long d))
 
 -- the map that an edit makes, and the text that it puts at the mark
 abbrev madeBy : Ask → HeaderMap → List ℕ → List ℕ → HeaderMap

@@ -8,6 +8,7 @@ use native.Mathlib.Omega.{arith}
 use lib.ListN.{length, take, drop}
 use lib.Seq.{take-at}
 use Rattle.leaves.specs.Paste.{lay, pasted}
+use Rattle.leaves.proofs.LayLaws.{lay-take}
 use Rattle.maps.specs.Places.{part}
 use Rattle.maps.specs.Good.{live, checkedDone}
 use Rattle.maps.specs.declared.Field.{Field}
@@ -24,10 +25,6 @@ use Rattle.edits.proofs.FieldLaws.{keeps-map, replaced-map}
 use Rattle.says.specs.Says.{pair, setSaid, appendSaid, removeSaid, statusSaid}
 use Rattle.says.proofs.KeptLaws.{text-at, status-kept, pairs-kept}
 
--- the fields laid over a table are its first ones
-pub laid-live : (t xs : List Field) → take (length xs) (lay t xs) ≡ xs
-laid-live t xs = take-at xs (drop (length xs) t) (length xs) refl
-
 module _ (m : HeaderMap) (b s : List ℕ) (fine : Fine ≡ checkedDone m b s) where
   stored : m .mark ≤ length s
   stored = let w = ready-of _ m b s fine in omega (arith, w .mark, w .store)
@@ -42,7 +39,7 @@ module _ (m : HeaderMap) (b s : List ℕ) (fine : Fine ≡ checkedDone m b s) wh
     -- other fields: the status stays
     fields-say : (xs : List Field) (mark : ℕ) (edited : Bool) (ps : List Pair) → map (pairAt b (pasted s (m .mark) t)) xs ≡ ps
         → saying (withFields m xs mark edited) b (pasted s (m .mark) t) ≡ record { status = statusAt b s (m .status); pairs = ps }
-    fields-say xs mark edited ps e = said-is (withFields m xs mark edited) b (pasted s (m .mark) t) ∙ rw (laid-live (m .table) xs, same-status, e)
+    fields-say xs mark edited ps e = said-is (withFields m xs mark edited) b (pasted s (m .mark) t) ∙ rw (lay-take (m .table) xs, same-status, e)
 
     -- the tests of names see the same
     module _ (name : List ℕ) where

@@ -1,7 +1,7 @@
 -- The page to believe, of edits and lookups: each sentence with its statement, on the calls. `proofs/EditsHold` inhabits `Edits`. Assumes nothing.
 use mathlib.Core.Path.{_≡_}
 use mathlib.Core.List.{List, []}
-use Prim.Native.Nat.{ℕ, _≤_}
+use Prim.Native.Nat.{ℕ}
 use lib.ListN.{getD}
 use Rattle.leaves.specs.declared.refusals.Refusal.{Refusal}
 use Rattle.maps.specs.Places.{at}

@@ -8,7 +8,8 @@ use native.Mathlib.Omega.{arith}
 use native.Mathlib.Numerals.{add-one}
 use lib.ListN.{length, getD, drop, length-take}
 use lib.Seq.{getD-take}
-use Rattle.leaves.specs.Choice.{if_then_else_, clash}
+use Rattle.leaves.specs.Choice.{if_then_else_}
+use Rattle.leaves.proofs.ChoiceLaws.{clash}
 use Rattle.leaves.specs.declared.refusals.Refusal.{Refusal}
 use Rattle.maps.specs.Places.{at, noField}
 use Rattle.maps.specs.Good.{live, checkedDone}

@@ -5,7 +5,7 @@ use mathlib.Core.List.{List, map}
 use mathlib.Core.Option.{some}
 use Prim.Native.Nat.{ℕ, _+_, _≤_, _<_}
 use lib.ListN.{length, getD, take, drop}
-use Rattle.leaves.specs.Choice.{and-false}
+use Rattle.leaves.proofs.ChoiceLaws.{and-false}
 use Rattle.leaves.specs.declared.refusals.Refusal.{Refusal}
 use Rattle.maps.specs.Places.{at, noField}
 use Rattle.maps.specs.Good.{checkedDone, live}

@@ -8,7 +8,7 @@ use native.Mathlib.Omega.{arith}
 use borrow.Author.Tests.{ne-eqb}
 use lib.ListN.{length, getD, take, drop, length-drop, drop-of-length-le}
 use lib.Seq.{drop-cons, drop-drop, take-nil}
-use Rattle.leaves.specs.Choice.{and-left, and-right, and-false}
+use Rattle.leaves.proofs.ChoiceLaws.{and-left, and-right, and-false}
 use Rattle.leaves.specs.Octets.{before, sameList}
 use Rattle.leaves.proofs.SearchLaws.{before-here, before-not}
 use Rattle.tidy.specs.Clean.{neat, filled}

@@ -9,7 +9,8 @@ use borrow.Author.Tests.{le-leb, lt-leb}
 use lib.Dec.{leb}
 use lib.ListN.{length, take, drop}
 use lib.Seq.{drop-drop}
-use Rattle.leaves.specs.Choice.{if_then_else_, and-left, and-right}
+use Rattle.leaves.specs.Choice.{if_then_else_}
+use Rattle.leaves.proofs.ChoiceLaws.{and-left, and-right}
 use Rattle.leaves.specs.Octets.{before, sameList}
 use Rattle.leaves.specs.declared.refusals.Refusal.the-variants.{BadRooms}
 use Rattle.writes.specs.Written.{crlf}

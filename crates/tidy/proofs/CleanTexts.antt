@@ -4,7 +4,7 @@ use mathlib.Core.Bool.{true, false, _&&_, not}
 use mathlib.Core.List.{List, _∷_}
 use Prim.Native.Nat.{ℕ}
 use borrow.Author.Tests.{not-true}
-use Rattle.leaves.specs.Choice.{and-left, and-right, and-both}
+use Rattle.leaves.proofs.ChoiceLaws.{and-left, and-right, and-both}
 use Rattle.leaves.specs.Class.{blank}
 use Rattle.leaves.specs.Octets.{has, sameList}
 use Rattle.leaves.specs.Trim.{trimmed}

@@ -7,7 +7,7 @@ use Prim.Native.Nat.{ℕ, _+_, _≤_}
 use native.Mathlib.Nat.{zero-add}
 use native.Mathlib.Omega.{arith}
 use lib.ListN.{length, length-append}
-use Rattle.leaves.specs.Choice.{and-left, and-right}
+use Rattle.leaves.proofs.ChoiceLaws.{and-left, and-right}
 use Rattle.leaves.proofs.TrimTexts.{trim-line, first-solid}
 use Rattle.reader.specs.Reading.{Rules, Reading, fed, begun}
 use Rattle.maps.specs.Said.{Pair, Said}

@@ -7,7 +7,7 @@ use Prim.Native.Nat.{ℕ, _≤_}
 use borrow.Author.Tests.{le-leb, leb-true}
 use lib.Dec.{leb}
 use lib.ListN.{length, take}
-use Rattle.leaves.specs.Choice.{and-left, and-right, and-both}
+use Rattle.leaves.proofs.ChoiceLaws.{and-left, and-right, and-both}
 use Rattle.leaves.specs.Octets.{before}
 use Rattle.reader.specs.Reading.{Rules}
 use Rattle.maps.specs.Said.{Pair, Said}

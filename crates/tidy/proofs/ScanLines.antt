@@ -6,7 +6,7 @@ use Prim.Native.Nat.{ℕ, suc, _+_}
 use lib.Dec.{eqb}
 use lib.ListN.{length, take, drop, take-append-drop}
 use lib.Seq.{take-at, drop-at, drop-append-add, drop-drop}
-use Rattle.leaves.specs.Choice.{and-left, and-right, and-both}
+use Rattle.leaves.proofs.ChoiceLaws.{and-left, and-right, and-both}
 use Rattle.leaves.specs.Octets.{has, before, sameList}
 use Rattle.leaves.proofs.NameLaws.{same-list-refl, same-list-eq}
 use Rattle.leaves.proofs.SearchLaws.{before-append}

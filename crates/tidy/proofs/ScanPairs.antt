@@ -5,7 +5,7 @@ use mathlib.Core.List.{List, [], _∷_, _++_, append-assoc}
 use Prim.Native.Nat.{ℕ, zero, suc, _≤_}
 use native.Mathlib.Omega.{arith}
 use lib.ListN.{length, take}
-use Rattle.leaves.specs.Choice.{and-left, and-right, and-both}
+use Rattle.leaves.proofs.ChoiceLaws.{and-left, and-right, and-both, or-second}
 use Rattle.leaves.specs.Octets.{before, sameList}
 use Rattle.leaves.proofs.NameLaws.{same-list-refl, same-list-eq}
 use Rattle.maps.specs.Said.{Pair}
@@ -14,10 +14,6 @@ use Rattle.tidy.specs.Clean.{neat, filled, cleanPair, cleanPairs}
 use Rattle.tidy.specs.Scan.{neatLine, afterLine, neatKey, afterKey, scanPairs}
 use Rattle.tidy.proofs.CleanTexts.{pair-filled, pair-colon, pair-key, pair-value, is-pair}
 use Rattle.tidy.proofs.ScanLines.{none-before, split-two, neat-line, after-line, line-neat, line-is, pair-shape, neat-key, after-key}
-
-or-second : (a b : Bool) → b ≡ true → (a || b) ≡ true
-or-second true b e = refl
-or-second false b e = e
 
 or-first : (a b : Bool) → a ≡ true → (a || b) ≡ true
 or-first a b e = rw e

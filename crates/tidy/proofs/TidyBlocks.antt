@@ -7,7 +7,7 @@ use native.Mathlib.Omega.{arith}
 use borrow.Author.Tests.{eq-eqb, eqb-true}
 use lib.Dec.{eqb}
 use lib.ListN.{length, length-map}
-use Rattle.leaves.specs.Choice.{and-left, and-right}
+use Rattle.leaves.proofs.ChoiceLaws.{and-left, and-right}
 use Rattle.leaves.specs.Octets.{sameList}
 use Rattle.leaves.proofs.NameLaws.{same-list-refl, same-list-eq}
 use Rattle.readings.specs.Listening.{said, atBlank}

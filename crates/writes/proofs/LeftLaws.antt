@@ -3,7 +3,7 @@ use mathlib.Core.Path.{_≡_, refl, sym, ap, _∙_}
 use mathlib.Core.Bool.{Bool, true, false, false≢true}
 use mathlib.Core.List.{List}
 use Prim.Native.Nat.{ℕ}
-use Rattle.leaves.specs.Choice.{by-if}
+use Rattle.leaves.proofs.ChoiceLaws.{by-if}
 use Rattle.leaves.specs.declared.refusals.Refusal.{Refusal}
 use Rattle.maps.specs.Good.{checkedDone, unless}
 use Rattle.maps.specs.declared.Checked.{Checked}

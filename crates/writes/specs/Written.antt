@@ -1,5 +1,5 @@
 -- The written form of a map, and what the calls that write give. Assumes nothing.
-use mathlib.Core.Path.{_≡_, sym, _∙_}
+use mathlib.Core.Path.{_≡_}
 use mathlib.Core.Bool.{Bool, true, false}
 use mathlib.Core.List.{List, [], _∷_, _++_}
 use mathlib.Core.Option.{Option, none, some}
@@ -75,10 +75,6 @@ writing m b s d = unless (checkedDone m b s) (refuses d) (giving d (written m b 
 pub record Is (g : Given) (r : Wrote) (d : List ℕ) : Type 0 where
   pub result : r ≡ g .result
   pub out : d ≡ g .out
-
--- any two results that such a contract admits coincide
-pub coincide : {g : Given} {r r′ : Wrote} {d d′ : List ℕ} → Is g r d → Is g r′ d′ → (r ≡ r′) × (d ≡ d′)
-coincide p q = (p .result ∙ sym (q .result), p .out ∙ sym (q .out))
 
 -- d₀ became d, with the text t at the place at, which ends at r
 pub record Put (d₀ d : List ℕ) (at r : ℕ) (t : List ℕ) : Type 0 where

@@ -1,6 +1,6 @@
 -- `encoded::phase_of` meets its contract. Assumes nothing.
 use borrow.Author.Tests.{eq-eqb, ne-eqb}
-use Rattle.leaves.specs.Choice.{if-true, if-false}
+use Rattle.leaves.proofs.ChoiceLaws.{if-true, if-false}
 use Rattle.encoded.proofs.phase_of.Statement.{statement}
 use Rattle.encoded.proofs.phase_of.Tie as tie
 use mathlib.Core.Path.{sym}

@@ -4,7 +4,7 @@ use mathlib.Core.Path.{sym, ap, _∙_}
 use Prim.Native.Nat.{_-_}
 use lib.Dec.{eqb}
 use Rattle.leaves.specs.declared.trims.Span.{Span}
-use Rattle.leaves.specs.Choice.{if-true, if-false}
+use Rattle.leaves.proofs.ChoiceLaws.{if-true, if-false}
 use Rattle.folds.specs.Rule.{endsBlock}
 use Rattle.folds.proofs.LineTexts.{all-blank, two-true, two-false, not-two}
 use Rattle.folds.proofs.ends_block.Statement.{statement}

@@ -1,7 +1,7 @@
 -- `grammar::await_lf` meets its contract. Assumes nothing.
 use borrow.Author.Tests.{eq-eqb, ne-eqb}
 use mathlib.Core.Path.{sym}
-use Rattle.leaves.specs.Choice.{if-true, if-false}
+use Rattle.leaves.proofs.ChoiceLaws.{if-true, if-false}
 use Rattle.grammar.specs.Walk.{awaited}
 use Rattle.grammar.proofs.await_lf.Statement.{statement}
 use Rattle.grammar.proofs.await_lf.Tie as tie

@@ -3,7 +3,7 @@ use borrow.Author.Needs.{needs}
 use borrow.Author.Tests.{eq-eqb, ne-eqb}
 use mathlib.Core.Path.{sym, _∙_}
 use Prim.Native.Nat.{_-_}
-use Rattle.leaves.specs.Choice.{if-true, if-false}
+use Rattle.leaves.proofs.ChoiceLaws.{if-true, if-false}
 use Rattle.grammar.specs.Walk.{keyed}
 use Rattle.grammar.proofs.take_key.Statement.{statement}
 use Rattle.grammar.proofs.take_key.Tie as tie

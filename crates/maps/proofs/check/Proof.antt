@@ -4,7 +4,7 @@ use mathlib.Core.Path.{sym, _∙_}
 use Prim.Native.Nat.{_-_}
 use borrow.Author.Tests.{le-leb, lt-leb}
 use Rattle.maps.proofs.GoodLaws.{and-go, and-stop, checked-bad, checked-short, checked-wrong, checked-fine}
-use Rattle.leaves.specs.Choice.{and-both}
+use Rattle.leaves.proofs.ChoiceLaws.{and-both}
 use Rattle.maps.proofs.check.Statement.{statement}
 use Rattle.maps.proofs.check.Tie as tie
 

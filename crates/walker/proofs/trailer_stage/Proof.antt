@@ -2,7 +2,7 @@
 use Rattle.walker.proofs.trailer_stage.Statement.{statement}
 use Rattle.walker.proofs.trailer_stage.Tie as tie
 use borrow.Author.Tests.{eq-eqb, ne-eqb}
-use Rattle.leaves.specs.Choice.{if-true, if-false}
+use Rattle.leaves.proofs.ChoiceLaws.{if-true, if-false}
 use mathlib.Core.Path.{sym, _∙_}
 use Prim.Native.Nat.{_-_}
 

@@ -1,5 +1,5 @@
 -- `abi::telling::bisquecrow_clean` meets its contract. Assumes nothing.
-use Rattle.leaves.specs.Choice.{if-true, if-false}
+use Rattle.leaves.proofs.ChoiceLaws.{if-true, if-false}
 use Rattle.tests.specs.Answers.{told as testOf}
 use Rattle.encoded.proofs.WholeLaws.{sound-long}
 use borrow.Author.Needs.{needs}

@@ -1,5 +1,5 @@
 -- `abi::telling::bisquecrow_grammatical` meets its contract. Assumes nothing.
-use Rattle.leaves.specs.Choice.{if-true, if-false}
+use Rattle.leaves.proofs.ChoiceLaws.{if-true, if-false}
 use borrow.Author.Needs.{needs}
 use Rattle.abi.proofs.telling.bisquecrow_grammatical.Statement.{statement}
 use Rattle.abi.proofs.telling.bisquecrow_grammatical.Tie as tie

@@ -1,7 +1,7 @@
 -- `encoded::tables::is_sound_status_by` meets its contract. Assumes nothing.
 use borrow.Author.Tests.{eq-eqb, ne-eqb}
 use Rattle.maps.proofs.GoodLaws.{and-go, and-stop}
-use Rattle.leaves.specs.Choice.{if-true, if-false}
+use Rattle.leaves.proofs.ChoiceLaws.{if-true, if-false}
 use Rattle.encoded.specs.Tabled.{soundStatusBy}
 use Rattle.encoded.proofs.tables.is_sound_status_by.Statement.{statement}
 use Rattle.encoded.proofs.tables.is_sound_status_by.Tie as tie

@@ -1,6 +1,6 @@
 -- `encoded::tables::place_by` meets its contract. Assumes nothing.
 use borrow.Author.Tests.{eq-eqb, ne-eqb}
-use Rattle.leaves.specs.Choice.{if-true, if-false}
+use Rattle.leaves.proofs.ChoiceLaws.{if-true, if-false}
 use Rattle.encoded.specs.Tabled.{placeBy}
 use Rattle.encoded.proofs.tables.place_by.Statement.{statement}
 use Rattle.encoded.proofs.tables.place_by.Tie as tie

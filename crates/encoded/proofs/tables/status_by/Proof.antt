@@ -1,7 +1,7 @@
 -- `encoded::tables::status_by` meets its contract. Assumes nothing.
 use borrow.Author.Tests.{eq-eqb, ne-eqb}
 use Rattle.maps.specs.declared.Status.the-variants.{At}
-use Rattle.leaves.specs.Choice.{if-true, if-false}
+use Rattle.leaves.proofs.ChoiceLaws.{if-true, if-false}
 use Rattle.encoded.specs.Tabled.{statusBy}
 use borrow.Author.Needs.{needs}
 use Rattle.encoded.proofs.tables.status_by.Statement.{statement}

@@ -1,6 +1,7 @@
 -- `encoded::walkers::low_stage` meets its contract. Assumes nothing.
 use borrow.Author.Tests.{ne-eqb}
-use Rattle.leaves.specs.Choice.{if_then_else_, if-false}
+use Rattle.leaves.specs.Choice.{if_then_else_}
+use Rattle.leaves.proofs.ChoiceLaws.{if-false}
 use Rattle.encoded.specs.Standing.{lowStage}
 use Rattle.encoded.proofs.walkers.low_stage.Statement.{statement}
 use Rattle.encoded.proofs.walkers.low_stage.Tie as tie

@@ -1,6 +1,6 @@
 -- `encoded::walkers::stage_of` meets its contract. Assumes nothing.
 use borrow.Author.Tests.{lt-ltb, le-ltb}
-use Rattle.leaves.specs.Choice.{if-true, if-false}
+use Rattle.leaves.proofs.ChoiceLaws.{if-true, if-false}
 use Rattle.walker.specs.declared.Stage.the-variants.{Stopped}
 use Rattle.encoded.specs.Standing.{stageOf}
 use borrow.Author.Needs.{needs}

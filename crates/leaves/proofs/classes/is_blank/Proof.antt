@@ -5,7 +5,7 @@ use borrow.Author.Tests.{ne-eqb}
 use lib.Dec.{eqb}
 use Rattle.leaves.specs.Class.{blank}
 use Rattle.leaves.specs.Octets.{has}
-use Rattle.leaves.specs.Choice.{or-false, eqb-sym}
+use Rattle.leaves.proofs.ChoiceLaws.{or-false, eqb-sym}
 use Rattle.leaves.proofs.classes.is_blank.Statement.{statement}
 use Rattle.leaves.proofs.classes.is_blank.Tie as tie
 
