@@ -177,11 +177,23 @@ fn resume_in(first: &mut [u8], second: &mut [u8]) {
     warc_verdicts::resume(warc_inputs::front(first, n), warc_inputs::front(second, k));
 }
 
+// Standard input holds one file.
+fn are_both_input() -> bool {
+    if is_word(2, b"-") {
+        return is_word(3, b"-");
+    }
+    false
+}
+
 fn resume(count: usize) {
     let mut first = io::buffer();
     let mut second = io::buffer();
     if count == 4 {
-        resume_in(&mut first, &mut second);
+        if are_both_input() {
+            misused();
+        } else {
+            resume_in(&mut first, &mut second);
+        }
     } else {
         misused();
     }

@@ -41,6 +41,31 @@ fn is_read(said: &mut [u8], path: &[u8], answer: Answer) -> bool {
     }
 }
 
+fn refuse_cut_off(said: &mut [u8]) {
+    let n = prints::text(
+        said,
+        0,
+        b"do not append: a header was cut off before its blank line\n",
+    );
+    warc_phrases::finish(said, n);
+}
+
+// Whether a block was read to its blank line: a cut-off one's last field may be the beginning of another.
+fn is_whole(said: &mut [u8], path: &[u8], answer: Answer) -> bool {
+    match answer {
+        Answer::Blank => true,
+        Answer::Refused(e) => {
+            refuse(said, path, e);
+            false
+        }
+        _ => {
+            is_read(said, path, answer);
+            refuse_cut_off(said);
+            false
+        }
+    }
+}
+
 // Writes a map's rebuilt block.
 fn write_rebuilt<'a>(
     said: &mut [u8],
@@ -138,7 +163,7 @@ fn compare<'a>(
     if h.failed {
         return;
     }
-    if is_read(typed, second, answer) {
+    if is_whole(typed, second, answer) {
         let verdict = resume::resume(m, first_block, first_store, k, block, store);
         say(typed, verdict);
     }
@@ -159,7 +184,7 @@ fn load_and_compare(
     if h.failed {
         return;
     }
-    if is_read(typed, first, answer) {
+    if is_whole(typed, first, answer) {
         compare(m, first_block, first_store, second, typed, block, store);
     }
 }
