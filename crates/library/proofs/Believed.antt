@@ -4,11 +4,12 @@ use Rattle.says.proofs.EditsHold.{edits}
 use Rattle.demands.proofs.Answers.{answered as demands-answered}
 use Rattle.records.proofs.Files.{answered as walks-answered}
 use Rattle.library.specs.Library.{Library}
-use Rattle.library.proofs.Contracts.{leaves, maps, calls, exports}
+use Rattle.library.proofs.Contracts.{asks, leaves, maps, calls, exports}
 
 pub believed : Library
 believed =
     record {
+      asks = asks;
       leaves = leaves;
       maps = maps;
       calls = calls;

@@ -1,4 +1,5 @@
 pub mod Says
+pub mod Asks
 pub mod Leaves
 pub mod Maps
 pub mod Calls

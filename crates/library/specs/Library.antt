@@ -3,12 +3,14 @@ use Rattle.readings.specs.Hears.{Hears}
 use Rattle.says.specs.Edits.{Edits}
 use Rattle.demands.specs.Demands.{Demands}
 use Rattle.records.specs.Walks.{Walks}
+use Rattle.library.specs.Asks.{AsksOnly}
 use Rattle.library.specs.Leaves.{Leaves}
 use Rattle.library.specs.Maps.{Maps}
 use Rattle.library.specs.Calls.{Calls}
 use Rattle.library.specs.Exports.{Exports}
 
 pub record Library : Type 0 where
+  pub asks : AsksOnly
   pub leaves : Leaves
   pub maps : Maps
   pub calls : Calls

@@ -4,6 +4,13 @@
 abbrev pub Says : {K : Type 0} {A R E : K → Type 0} → ((κ : K) → A κ → R κ → E κ → Type 0) → ((κ : K) → A κ → R κ → E κ → Type 0) → Type 0
 Says {K} {A} {R} {E} L P = (κ : K) (a : A κ) (r : R κ) (e : E κ) → L κ a r e → P κ a r e
 
+-- a function asks nothing of its caller, or no more than Q
+abbrev pub Free : {K : Type 0} {A : K → Type 0} → ((κ : K) → A κ → Type 0) → Type 0
+Free {K} {A} Asked = (κ : K) (a : A κ) → Asked κ a
+
+abbrev pub Asks : {K : Type 0} {A : K → Type 0} → ((κ : K) → A κ → Type 0) → ((κ : K) → A κ → Type 0) → Type 0
+Asks {K} {A} Asked Q = (κ : K) (a : A κ) → Q κ a → Asked κ a
+
 -- the parameters of a function, and what was lent to it at its exit, by their places
 abbrev pub first : {A T : Type 0} → A × T → A
 first a = a .0
