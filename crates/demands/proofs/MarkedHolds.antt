@@ -21,11 +21,12 @@ use Rattle.maps.specs.Said.{saying}
 use Rattle.writes.specs.Written.{pairLine, pairLines, statusLine, rebuilt, written, giving, writing}
 use Rattle.codes.specs.Line.{isHttp, behindSpace, withoutPlus, smallNumber, statusCode, reasonStart}
 use Rattle.codes.specs.Codes.{coding}
-use Rattle.tidy.specs.Clean.{neat, cleanPair, cleanPairs, cleanStatus, clean}
-use Rattle.tests.specs.Tests.{cleaning}
+use Rattle.tidy.specs.Clean.{neat, cleanPair, cleanPairs, cleanStatus, clean, tidyAfter, tidy}
+use Rattle.readings.specs.Listening.{said}
+use Rattle.tests.specs.Tests.{cleaning, tidying}
 use Rattle.demands.specs.Marked.{table, holds}
 
 -- "M1 to M12 are shown of the definitions by a single table and one fact over it": every row gives what it says
 pub marked : T (holds table)
-unfolding table if_then_else_ blank digit endsLine crBefore decimalFrom isDecimal contentLength has before all sameList trimEnd trimStart leading lastOf goodFields good checked endsBlock grown regrown folded split rule4 ruled closed put step fed finished fedFrom finishedFrom feeding finishing clearing checkedRooms beginning pasted dropped spaced scrubbed named lowered keeps replaced changing setting appending shownStatus isHttp behindSpace withoutPlus smallNumber statusCode reasonStart coding neat cleanPair cleanPairs cleanStatus clean cleaning saying pairLine pairLines statusLine rebuilt written giving writing
+unfolding table if_then_else_ blank digit endsLine crBefore decimalFrom isDecimal contentLength has before all sameList trimEnd trimStart leading lastOf goodFields good checked endsBlock grown regrown folded split rule4 ruled closed put step fed finished fedFrom finishedFrom feeding finishing clearing checkedRooms beginning pasted dropped spaced scrubbed named lowered keeps replaced changing setting appending shownStatus isHttp behindSpace withoutPlus smallNumber statusCode reasonStart coding neat cleanPair cleanPairs cleanStatus clean cleaning tidying tidy tidyAfter said saying pairLine pairLines statusLine rebuilt written giving writing
 marked = tt
