@@ -4,6 +4,8 @@ use Rattle.leaves.specs.Numbers.{found, missing}
 use Rattle.leaves.specs.Refusals.{number}
 use Rattle.codes.specs.declared.line.Code.{Code}
 use Rattle.codes.specs.declared.line.Code.the-variants.{Is as CodeIs, None as NoCode, Refused as Uncoded}
+use Rattle.codes.specs.declared.Phrase.{Phrase}
+use Rattle.codes.specs.declared.Phrase.the-variants.{Stands, None as NoPhrase, Refused as Unphrased}
 use Rattle.codes.specs.declared.Length.{Length}
 use Rattle.codes.specs.declared.Length.the-variants.{Is as LengthIs, Missing as NoLength, Refused as Unmeasured}
 use Rattle.codes.specs.declared.Kind.{Kind}
@@ -25,3 +27,9 @@ lengthAnswer (Unmeasured e) = number e
 abbrev pub kindAnswer : Kind → ℕ
 kindAnswer (KindIs n) = found
 kindAnswer (Untyped e) = number e
+
+-- whether there is a reason; "none without it"
+abbrev pub phraseAnswer : Phrase → ℕ
+phraseAnswer Stands = found
+phraseAnswer NoPhrase = missing
+phraseAnswer (Unphrased e) = number e

@@ -4,6 +4,7 @@ use Rattle.says.proofs.EditsHold.{edits}
 use Rattle.demands.proofs.Answers.{answered as demands-answered}
 use Rattle.records.proofs.Files.{answered as walks-answered}
 use Rattle.library.specs.Library.{Library}
+use Rattle.library.proofs.EncodingsHold.{encodings}
 use Rattle.library.proofs.Contracts.{asks, leaves, maps, calls, exports}
 
 pub believed : Library
@@ -14,6 +15,7 @@ believed =
       maps = maps;
       calls = calls;
       exports = exports;
+      encodings = encodings;
       hears = hears;
       edits = edits;
       demands = demands-answered;

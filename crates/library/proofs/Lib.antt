@@ -1,3 +1,4 @@
 pub mod Contracts
 pub mod Coincide
+pub mod EncodingsHold
 pub mod Believed

@@ -4,4 +4,5 @@ pub mod Leaves
 pub mod Maps
 pub mod Calls
 pub mod Exports
+pub mod Encodings
 pub mod Library

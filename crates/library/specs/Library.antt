@@ -8,6 +8,7 @@ use Rattle.library.specs.Leaves.{Leaves}
 use Rattle.library.specs.Maps.{Maps}
 use Rattle.library.specs.Calls.{Calls}
 use Rattle.library.specs.Exports.{Exports}
+use Rattle.library.specs.Encodings.{Encodings}
 
 pub record Library : Type 0 where
   pub asks : AsksOnly
@@ -15,6 +16,7 @@ pub record Library : Type 0 where
   pub maps : Maps
   pub calls : Calls
   pub exports : Exports
+  pub encodings : Encodings
   pub hears : Hears
   pub edits : Edits
   pub demands : Demands
