@@ -1,4 +1,4 @@
--- The laws of the edits: what the map says then, that it can be used again, what a refused edit leaves. Assumes nothing.
+-- The laws of the edits: what the map says then, and that it can be used again. Assumes nothing.
 use mathlib.Core.Path.{_≡_, sym, ap, _∙_}
 use mathlib.Core.Bool.{Bool, true, false}
 use mathlib.Core.List.{List, [], _∷_, _++_}
@@ -8,37 +8,26 @@ use lib.ListN.{length}
 use Rattle.leaves.specs.Paste.{pasted}
 use Rattle.leaves.specs.Sanitise.{sanitised}
 use Rattle.leaves.proofs.LayLaws.{lay-take}
-use Rattle.leaves.specs.declared.refusals.Refusal.{Refusal}
-use Rattle.maps.specs.Places.{at}
-use Rattle.maps.specs.Good.{live, checkedDone, Fits, in-store, FitAll, fit-at}
+use Rattle.maps.specs.Good.{live, checkedDone, in-store, FitAll, fit-at}
 use Rattle.maps.specs.Maps.{Given}
 use Rattle.maps.specs.declared.Field.{Field}
-use Rattle.maps.specs.declared.Place.{Place}
 use Rattle.maps.specs.declared.Checked.the-variants.{Fine}
 use Rattle.maps.specs.declared.HeaderMap.{HeaderMap}
 use Rattle.maps.proofs.GoodLaws.{ready-of}
 use Rattle.maps.specs.Said.{saying}
 use Rattle.lookups.specs.Lookups.{named}
-use Rattle.edits.specs.declared.Edit.the-variants.{Done, Refused}
+use Rattle.edits.specs.declared.Edit.the-variants.{Done}
 use Rattle.edits.specs.declared.Edited.{Edited}
 use Rattle.edits.specs.Fields.{replaced}
-use Rattle.edits.specs.Edits.{withFields, withStatus, refusing, filled, leaving, thinned}
+use Rattle.edits.specs.Edits.{withFields, withStatus, filled, leaving, thinned}
 use Rattle.maps.proofs.FitLaws.{status-mono, all-mono, all-snoc}
 use Rattle.edits.proofs.FieldLaws.{keeps-fit, replaced-fit}
-use Rattle.edits.proofs.OutcomeLaws.{Made, Outcome, left, made, made-of, left-of, setting-outcome, appending-outcome, removing-outcome, statusing-outcome}
-use Rattle.says.specs.Says.{Ask, ask-set, ask-append, ask-remove, ask-status, asked, askSaid, after, usable}
-use Rattle.says.proofs.KeptLaws.{place-kept}
+use Rattle.edits.proofs.OutcomeLaws.{Made, Outcome, made-of, setting-outcome, appending-outcome, removing-outcome, statusing-outcome}
+use Rattle.says.specs.Says.{Ask, ask-set, ask-append, ask-remove, ask-status, asked, askSaid, askText, after, usable}
 use Rattle.says.proofs.AgainLaws.{again, pasted-long, new-fits}
 use Rattle.says.proofs.MadeSays.{kept-says, set-made, append-made, status-made}
 
--- An edit never disturbs the octets of another field: what any place of the map says stays.
 module _ {m : HeaderMap} {b s : List ℕ} {n : HeaderMap} {t : List ℕ} {g : Given Edited} where
-  pub octets-stay : Outcome m b s n t g → {p : Place} → Fits (m .count) (m .mark) p → at (g .block) (g .store) p ≡ at b s p
-  octets-stay (left x e) {p} f = rw e
-  octets-stay (made d) {p} f =
-      let w = ready-of _ m b s (d .fine) in
-      ap (λ (h : Given Edited). at (h .block) (h .store) p) (d .is) ∙ place-kept s (m .mark) (omega (arith, w .mark, w .store)) b t (m .count) f
-
   made-says : Made m b s n t g → after g ≡ saying n b (pasted s (m .mark) t)
   made-says d = ap after (d .is)
 
@@ -58,31 +47,25 @@ module _ (m : HeaderMap) (b s : List ℕ) where
       made-usable d
       (again m b s (d .fine) _ _ _ mark edited (d .few) h (status-mono (omega arith) up (w .status)) (rw (lay-take (m .table) xs) f) (pasted s (m .mark) t) (long d))
 
--- the map that an edit makes, and the text that it puts at the mark
-abbrev madeBy : Ask → HeaderMap → List ℕ → List ℕ → HeaderMap
+-- the map that an edit makes
+abbrev pub madeBy : Ask → HeaderMap → List ℕ → List ℕ → HeaderMap
 madeBy (ask-set k v) m b s = filled m (λ new. replaced (named b s (sanitised true k)) new (live m)) (sanitised true k) (sanitised false v)
 madeBy (ask-append k v) m b s = filled m (λ new. live m ++ (new ∷ [])) (sanitised true k) (sanitised false v)
 madeBy (ask-remove k) m b s = thinned m (leaving m b s k)
 madeBy (ask-status t) m b s = withStatus m (length (sanitised true t))
 
-abbrev textBy : Ask → List ℕ
-textBy (ask-set k v) = sanitised true k ++ sanitised false v
-textBy (ask-append k v) = sanitised true k ++ sanitised false v
-textBy (ask-remove k) = []
-textBy (ask-status t) = sanitised true t
-
 module _ (m : HeaderMap) (b s : List ℕ) where
-  ask-outcome : (a : Ask) → Outcome m b s (madeBy a m b s) (textBy a) (asked a m b s)
+  pub ask-outcome : (a : Ask) → Outcome m b s (madeBy a m b s) (askText a) (asked a m b s)
   ask-outcome (ask-set k v) = setting-outcome m b s k v
   ask-outcome (ask-append k v) = appending-outcome m b s k v
   ask-outcome (ask-remove k) = removing-outcome m b s k
   ask-outcome (ask-status t) = statusing-outcome m b s t
 
-  ask-made : (a : Ask) → asked a m b s .result .answer ≡ Done → Made m b s (madeBy a m b s) (textBy a) (asked a m b s)
+  pub ask-made : (a : Ask) → asked a m b s .result .answer ≡ Done → Made m b s (madeBy a m b s) (askText a) (asked a m b s)
   ask-made a e = made-of (ask-outcome a) e
 
   -- what the map says then
-  says-by : (a : Ask) → Fine ≡ checkedDone m b s → saying (madeBy a m b s) b (pasted s (m .mark) (textBy a)) ≡ askSaid a (saying m b s)
+  pub says-by : (a : Ask) → Fine ≡ checkedDone m b s → saying (madeBy a m b s) b (pasted s (m .mark) (askText a)) ≡ askSaid a (saying m b s)
   says-by (ask-set k v) f = set-made m b s f _ _ _ _
   says-by (ask-append k v) f = append-made m b s f _ _ _ _
   says-by (ask-remove k) f = kept-says m b s f [] _ _ _
@@ -92,14 +75,14 @@ module _ (m : HeaderMap) (b s : List ℕ) where
   ask-says a e = let d = ask-made a e in made-says d ∙ says-by a (d .fine)
 
   -- the map can be used again
-  again-by : (a : Ask) → Made m b s (madeBy a m b s) (textBy a) (asked a m b s) → Fine ≡ usable (asked a m b s)
+  again-by : (a : Ask) → Made m b s (madeBy a m b s) (askText a) (asked a m b s) → Fine ≡ usable (asked a m b s)
   again-by (ask-set k v) d =
       let w = ready-of _ m b s (d .fine) in
-      let up : m .mark ≤ m .mark + length (textBy (ask-set k v)) = omega arith in
+      let up : m .mark ≤ m .mark + length (askText (ask-set k v)) = omega arith in
       fields-again m b s _ _ _ d up (d .fits) (replaced-fit _ _ _ _ (new-fits _ _ (sanitised true k) (sanitised false v)) _ (all-mono (omega arith) up (w .fields)))
   again-by (ask-append k v) d =
       let w = ready-of _ m b s (d .fine) in
-      let up : m .mark ≤ m .mark + length (textBy (ask-append k v)) = omega arith in
+      let up : m .mark ≤ m .mark + length (askText (ask-append k v)) = omega arith in
       fields-again m b s _ _ _ d up (d .fits) (all-snoc (all-mono (omega arith) up (w .fields)) (new-fits _ _ (sanitised true k) (sanitised false v)))
   again-by (ask-remove k) d =
       let w = ready-of _ m b s (d .fine) in
@@ -112,11 +95,3 @@ module _ (m : HeaderMap) (b s : List ℕ) where
 
   pub ask-again : (a : Ask) → asked a m b s .result .answer ≡ Done → Fine ≡ usable (asked a m b s)
   ask-again a e = again-by a (ask-made a e)
-
-  -- no other text changes
-  pub ask-stays : (a : Ask) (p : Place) → Fits (m .count) (m .mark) p → at (asked a m b s .block) (asked a m b s .store) p ≡ at b s p
-  ask-stays a p f = octets-stay (ask-outcome a) {p = p} f
-
-  -- a refused edit leaves all
-  pub ask-left : (a : Ask) (x : Refusal) → asked a m b s .result .answer ≡ Refused x → asked a m b s ≡ refusing m b s x
-  ask-left a x e = left-of (ask-outcome a) x e

@@ -1,9 +1,10 @@
 -- The edits and the lookups at the level of what a map says. Assumes nothing.
-use mathlib.Core.Bool.{true, false}
+use mathlib.Core.Bool.{Bool, true, false, _||_}
 use mathlib.Core.List.{List, [], _∷_, _++_}
 use mathlib.Core.Option.{some}
 use Prim.Native.Nat.{ℕ}
-use lib.ListN.{drop}
+use lib.Dec.{ltb}
+use lib.ListN.{length, drop}
 use Rattle.leaves.specs.Sanitise.{sanitised}
 use Rattle.maps.specs.Good.{checkedDone}
 use Rattle.maps.specs.Maps.{Given}
@@ -54,6 +55,20 @@ askSaid (ask-set key value) x = setSaid (sanitised true key) (sanitised false va
 askSaid (ask-append key value) x = appendSaid (sanitised true key) (sanitised false value) x
 askSaid (ask-remove key) x = removeSaid (sanitised true key) x
 askSaid (ask-status text) x = statusSaid (sanitised true text) x
+
+-- "Set and append put the new key, then the new value, at the mark; set status its text": the octets that it puts there
+abbrev pub askText : Ask → List ℕ
+askText (ask-set key value) = sanitised true key ++ sanitised false value
+askText (ask-append key value) = sanitised true key ++ sanitised false value
+askText (ask-remove key) = []
+askText (ask-status text) = sanitised true text
+
+-- "Set, append and set status mark the map edited, remove only if something went.": whether the map is edited then, from whether it was
+abbrev pub marked : Ask → Bool → Said → Bool
+marked (ask-set key value) edited x = true
+marked (ask-append key value) edited x = true
+marked (ask-remove key) edited x = edited || ltb (length (removeSaid (sanitised true key) x .pairs)) (length (x .pairs))
+marked (ask-status text) edited x = true
 
 -- "A lookup from a given field number on gives missing or a field number."
 abbrev pub findSaid : List ℕ → ℕ → Said → Found
