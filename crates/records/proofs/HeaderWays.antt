@@ -1,15 +1,15 @@
 -- What the page says of a walk that reads octets of a header. Assumes nothing.
 use mathlib.Core.Path.{_≡_, refl, sym, ap, _∙_, subst}
+use mathlib.Core.Bool.{true}
 use mathlib.Core.List.{List, _∷_}
 use Prim.Native.Nat.{ℕ, _+_, _-_, _≤_, _<_, min}
 use native.Mathlib.Omega.{arith}
 use lib.ListN.{length, take, drop}
 use lib.Seq.{take-take}
 use Rattle.leaves.specs.Paste.{lay}
-use Rattle.leaves.specs.Refusals.{number, refusal}
-use Rattle.leaves.specs.declared.refusals.Refusal.{Refusal}
+use Rattle.leaves.specs.Refusals.{refusal}
 use Rattle.leaves.proofs.LayLaws.{lay-rest}
-use Rattle.maps.specs.Good.{checkedReading}
+use Rattle.maps.specs.Good.{good, checkedReading}
 use Rattle.maps.specs.Maps.{Given}
 use Rattle.maps.specs.Said.{saying}
 use Rattle.maps.specs.declared.HeaderMap.{HeaderMap}
@@ -31,17 +31,18 @@ use Rattle.walker.specs.declared.Step.the-variants.{Refused}
 use Rattle.walker.specs.declared.Walker.{Walker}
 use Rattle.walker.specs.declared.Walked.{Walked}
 use Rattle.walker.proofs.WalkLaws.{allowed-is, header-read-is, by-more}
-use Rattle.records.specs.Stages.{heading, Leaves}
+use Rattle.records.specs.Stages.{heading, Leaves, Follows}
 use Rattle.records.specs.Walks.{InHeader, AfterWalk}
 use Rattle.records.proofs.Reach.{takes-allowed}
-use Rattle.records.proofs.Feeds.{within, later, reached, done, taken-enough}
-use Rattle.records.proofs.HeaderOctets.{opened-low}
-use Rattle.records.proofs.Ways.{Plain, plain-header, Numbers, plain-numbers, stops-by, no-number, apart, in-header}
+use Rattle.records.proofs.Feeds.{emptied-good, within, later, reached, fed-good, done, taken-enough, taken-refused}
+use Rattle.records.proofs.HeaderOctets.{opened-refused}
+use Rattle.records.proofs.Ways.{Plain, plain-header, Numbers, plain-numbers, apart, in-header}
 
 -- the map m is that of the header
 pub record Reads (w : Walker) (m : HeaderMap) (b s p : List ℕ) (g : Given Walked) : Type 0 where
   pub block : drop (m .limit) (g .block) ≡ drop (m .limit) b
   pub store : drop (m .room) (g .store) ≡ drop (m .room) s
+  pub isGood : good (g .result .walker .map) ≡ true
   pub header : InHeader g (feeding m b s (take (g .result .taken) p))
   pub numbers : Numbers w p (g .result)
 
@@ -77,24 +78,37 @@ module _ (w : Walker) (m : HeaderMap) (start : ℕ) (b s p : List ℕ) (fine : F
   near : taken ≤ furthest - w .position
   near = omega (arith, within m b s fine (take k p), takes, k-is)
 
+  few-is : take taken (take k p) ≡ take taken p
+  few-is = take-take taken k p (omega (arith, within m b s fine (take k p), takes))
+
+  fair : (a : Answer) → good (mapOf m Q a) ≡ true
+  fair = fed-good m b s fine (take k p)
+
   -- a feed of the octets that were taken gives the same
   gave-is : (a : Answer) → Q .answer ≡ a → feeding m b s (take taken (take k p)) ≡ feeding m b s (take k p) → feeding m b s (take taken p) ≡ gave a
   gave-is a e h =
-      ap (feeding m b s) (sym (take-take taken k p (omega (arith, within m b s fine (take k p), takes)))) ∙ h ∙ fed-goes m b s (take k p) fine ∙ ap gave e
+      ap (feeding m b s) (sym few-is) ∙ h ∙ fed-goes m b s (take k p) fine ∙ ap gave e
 
-  reads : (r : Walked) → r .taken ≡ taken → InHeader (left r) (feeding m b s (take taken p)) → Numbers w p r → Reads w m b s p (left r)
-  reads r same h n =
+  reads : (r : Walked) → r .taken ≡ taken → good (r .walker .map) ≡ true → InHeader (left r) (feeding m b s (take taken p)) → Numbers w p r → Reads w m b s p (left r)
+  reads r same fair h n =
       let z = later m b s fine (take k p) .sound in
       record {
         block = lay-rest b (Q .block) (m .limit) (z .limit);
         store = lay-rest s (Q .found .store) (m .room) (z .room);
+        isGood = fair;
         header = subst (λ (n : ℕ). InHeader (left r) (feeding m b s (take n p))) (sym same) h;
         numbers = n;
       }
 
+  -- a walk that leaves what a feed does, with the map emptied
+  abbrev Empty : Walked → Given Fed → Type 0
+  Empty r f = Leaves (emptied (f .result .map)) (f .block) (f .store) (left r)
+
   -- an answer that is no number from 9 on
-  plain : (r : Walked) → r .taken ≡ taken → ((e : Refusal) → r .step ≡ Refused e → r .walker .stage ≡ Stopped e) → Plain (told (r .step)) → Reads w m b s p (left r)
-  plain r same stops h = reads r same (plain-header _ _ h) (plain-numbers w p r stops (omega (arith, near, same)) h)
+  plain : (r : Walked) → r .taken ≡ taken → good (r .walker .map) ≡ true → Follows (r .step) (r .walker) → Plain (told (r .step))
+      → (3 < told (r .step) → told (r .step) < 7 → Empty r (feeding m b s (take taken p)))
+      → Reads w m b s p (left r)
+  plain r same fair follows h u = reads r same fair (plain-header _ _ h u) (plain-numbers w p r follows (omega (arith, near, same)) h)
 
   abbrev T : Walked → Type 0
   T r = Reads w m b s p (left r)
@@ -107,32 +121,33 @@ module _ (w : Walker) (m : HeaderMap) (start : ℕ) (b s p : List ℕ) (fine : F
       by-more T w (mapOf m Q More) (w .position + taken) (w .rest) start taken k (length p)
       (λ d.
       let all : taken ≡ k = omega (arith, reached m b s fine (take k p) More e, takes) in
-      reads far refl
+      reads far refl (emptied-good (mapOf m Q More) (fair More))
       (record {
+        four-to-six = λ i j. absurd (omega arith);
         nine = λ f. absurd (omega arith);
         ten = λ f. absurd (omega arith);
         thirteen =
             λ _.
-            subst (λ (f : Given Fed). Leaves (emptied (f .result .map)) (f .block) (f .store) (left far))
+            subst (Empty far)
             (sym (gave-is More e (ap (λ (n : ℕ). feeding m b s (take n (take k p))) all ∙ ap (feeding m b s) (take-take k k p (omega arith)))))
             (record { map = refl; block = refl; store = refl });
       })
       (record {
-        stops = stops-by (refusal 13);
+        follows = refl;
         near = near;
         thirteen = λ _. (omega (arith, all, k-is), omega (arith, all));
         eleven = λ f. absurd (omega arith);
       }))
-      (λ _. plain _ refl (λ _ f. no-number refl f) (λ j h i f. omega arith))
+      (λ _. plain _ refl (fair More) refl (λ j h i f. omega arith) (λ i j. absurd (omega arith)))
 
   opened-reads : Q .answer ≡ Blank → (o : Opening) → opened (saying (mapOf m Q Blank) B S) ≡ o
       → T (openedAt (mapOf m Q Blank) (w .position + taken) (w .rest) start taken o)
-  opened-reads e (Opens size kind) f = plain _ refl (λ _ f. no-number refl f) (λ j h i f. omega arith)
+  opened-reads e (Opens size kind) f = plain _ refl (fair Blank) (refl, refl, refl, refl) (λ j h i f. omega arith) (λ i j. absurd (omega arith))
   opened-reads e (Shut x) f =
-      let low = opened-low (saying (mapOf m Q Blank) B S) x f in
-      reads _ refl
-      (record { nine = λ _. ended; ten = λ _. ended; thirteen = λ f. absurd (omega arith) })
-      (record { stops = stops-by x; near = near; thirteen = λ f. absurd (omega arith); eleven = λ f. absurd (omega arith) })
+      let low = opened-refused (saying (mapOf m Q Blank) B S) x f in
+      reads _ refl (fair Blank)
+      (record { four-to-six = λ i j. absurd (omega (arith, low .0)); nine = λ _. ended; ten = λ _. ended; thirteen = λ f. absurd (omega (arith, low .1)) })
+      (record { follows = refl; near = near; thirteen = λ f. absurd (omega (arith, low .1)); eleven = λ f. absurd (omega (arith, low .1)) })
     where
       ended : (feeding m b s (take taken p) .result .answer ≡ Blank)
           × Leaves (feeding m b s (take taken p) .result .map) (feeding m b s (take taken p) .block) (feeding m b s (take taken p) .store)
@@ -145,7 +160,11 @@ module _ (w : Walker) (m : HeaderMap) (start : ℕ) (b s p : List ℕ) (fine : F
   by-answer Input e = absurd (reached m b s fine (take k p) Input e)
   by-answer (FedRefused x) e =
       let low = reached m b s fine (take k p) (FedRefused x) e .1 in
-      plain _ refl (stops-by x) (λ j h i f. omega arith)
+      let g = taken-refused m b s fine (take k p) x e in
+      plain _ refl (fair (FedRefused x)) refl (λ j h i f. omega arith)
+      (λ _ _.
+      subst (Empty (walked (mapOf m Q (FedRefused x)) (w .position + taken) (w .rest) (Stopped x) start taken (Refused x))) (ap (feeding m b s) few-is)
+      (record { map = sym (g .map); block = sym (g .block); store = sym (g .store) }))
 
   pub read-after : Reads w m b s p (headerRead w m start k b s p)
   read-after = rw (header-read-is w m start k b s p, fed-goes m b s (take k p) fine) (by-answer (Q .answer) refl)
@@ -153,7 +172,7 @@ module _ (w : Walker) (m : HeaderMap) (start : ℕ) (b s p : List ℕ) (fine : F
 -- a header that goes on, and one that begins
 module _ (w : Walker) (b s : List ℕ) (x : ℕ) (xs : List ℕ) (g : Given Walked) (near : w .position < furthest) where
   pub goes-on : w .stage ≡ Header → Reads w (w .map) b s (x ∷ xs) g → AfterWalk w b s (x ∷ xs) g
-  goes-on t r = in-header w b s x xs g (r .block) (r .store) (ap heading t) (r .numbers) (λ h. absurd (omega arith)) (λ h. apart t h) (λ _. r .header) (λ h. apart t h)
+  goes-on t r = in-header w b s x xs g (r .block) (r .store) (ap heading t) (r .isGood) (r .numbers) (λ h. absurd (omega arith)) (λ h. apart t h) (λ _. r .header) (λ h. apart t h)
 
   pub begins : w .stage ≡ Between → Reads w (fresh (w .map)) b s (x ∷ xs) g → AfterWalk w b s (x ∷ xs) g
-  begins t r = in-header w b s x xs g (r .block) (r .store) (ap heading t) (r .numbers) (λ h. absurd (omega arith)) (λ _. near) (λ h. apart h t) (λ _. r .header)
+  begins t r = in-header w b s x xs g (r .block) (r .store) (ap heading t) (r .isGood) (r .numbers) (λ h. absurd (omega arith)) (λ _. near) (λ h. apart h t) (λ _. r .header)

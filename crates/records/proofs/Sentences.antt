@@ -5,8 +5,9 @@ use mathlib.Core.List.{List, [], _∷_}
 use Prim.Native.Nat.{ℕ, _≤_, _<_}
 use native.Mathlib.Omega.{arith}
 use lib.ListN.{length}
-use Rattle.leaves.specs.Refusals.{refusal}
+use Rattle.leaves.specs.Refusals.{number, refusal}
 use Rattle.leaves.specs.declared.refusals.Refusal.{Refusal}
+use Rattle.maps.specs.Good.{good}
 use Rattle.maps.specs.Maps.{Given}
 use Rattle.maps.specs.declared.Checked.the-variants.{Refused as Bad}
 use Rattle.maps.proofs.GoodLaws.{not-refused}
@@ -19,27 +20,34 @@ use Rattle.walker.specs.declared.Step.{Step}
 use Rattle.walker.specs.declared.Step.the-variants.{More, End, Refused}
 use Rattle.walker.specs.declared.Walker.{Walker}
 use Rattle.walker.specs.declared.Walked.{Walked}
-use Rattle.walker.proofs.WalkLaws.{allowed-is, is-given, checks-low, by-body, by-rest, by-between, by-header, body-part, rest-some, walk-checked, walk-stopped, on-empty, on-stage, walk-rests, walk-over, end-rests, end-over, end-checked, end-stopped}
-use Rattle.records.specs.Stages.{heading, wanted, Goes, Leaves}
-use Rattle.records.specs.Walks.{AfterWalk, AfterEnd, Repeats, BodyFirst}
+use Rattle.walker.proofs.WalkLaws.{allowed-is, is-given, checks-give, by-body, by-rest, by-between, by-header, body-part, rest-some, walk-checked, walk-stopped, on-empty, on-stage, walk-rests, walk-over, end-rests, end-over, end-checked, end-stopped}
+use Rattle.records.specs.Stages.{heading, wanted, Goes, Leaves, Follows}
+use Rattle.records.specs.Walks.{AfterWalk, AfterEnd, Calls, BodyFirst}
+use Rattle.records.proofs.Feeds.{emptied-good}
 use Rattle.records.proofs.Reach.{allowed-none}
 use Rattle.records.proofs.Able.{Able, Standing, able, refused, ended, stopped, standing, fine-of, fresh-fine, header-fine}
-use Rattle.records.proofs.Ways.{stops-by, no-number, apart, quiet, far-outside, far-inside, trailer-after}
+use Rattle.records.proofs.Ways.{apart, quiet, far-outside, far-inside, trailer-after}
 use Rattle.records.proofs.HeaderWays.{read-after, goes-on, begins}
+
+-- the first checks give 2, 3 or 7
+low-checks : (w : Walker) (b s : List ℕ) (x : Refusal) → Bad x ≡ checkedWalker w (length b) (length s) → (number x < 8) × (3 < number x → 6 < number x)
+low-checks w b s =
+    checks-give (λ (x : Refusal). (number x < 8) × (3 < number x → 6 < number x)) (omega arith, λ i. omega arith) (omega arith, λ i. omega arith) (omega arith, λ i. omega arith)
+    w (length b) (length s)
 
 -- a walk by a walker that goes on
 module _ (w : Walker) (b s : List ℕ) where
   abbrev R : List ℕ → Given Walked → Type 0
   R p g = AfterWalk w b s p g
 
-  empty-after : R [] (keeps b s (stands w More))
-  empty-after =
-      quiet w b s [] _ refl (omega arith) (λ _ h _. omega arith) (λ j h i e. omega arith) (λ _ f. no-number refl f)
+  empty-after : resting (w .stage) ≡ Walks → R [] (keeps b s (stands w More))
+  empty-after walks =
+      quiet w b s [] _ refl (omega arith) (λ _ h _. omega arith) (λ j h i e. omega arith) (λ _. omega arith) walks
 
   refused-after : (p : List ℕ) (x : Refusal) → Bad x ≡ checkedWalker w (length b) (length s) → R p (keeps b s (stopsAt w x))
   refused-after p x e =
-      let low = checks-low w (length b) (length s) x e in
-      quiet w b s p _ refl (omega arith) (λ g _ _. not-refused x (g .fine ∙ sym e)) (λ j h i f. omega arith) (stops-by x)
+      let low = low-checks w b s x e in
+      quiet w b s p _ refl (omega arith) (λ g _ _. not-refused x (g .fine ∙ sym e)) (λ j h i f. omega (arith, low .0)) (low .1) refl
 
   module _ (x : ℕ) (xs : List ℕ) where
     abbrev p : List ℕ
@@ -72,8 +80,8 @@ module _ (w : Walker) (b s : List ℕ) where
         by-rest K w p (λ _. trailer-after w b s p 0 (omega arith) (ap heading t) (ap wanted t))
         (λ _. by-body K w k (λ z. far-outside w b s x xs (far z) (λ h. let y : _≡_ {A = ℕ} 0 1 = cc in omega arith))
         (λ z.
-        quiet w b s p _ refl (omega (arith, allowed-is (w .position) (length p))) (λ _ _ h. omega (arith, near z)) (λ j h i e. omega arith)
-        (λ _ f. no-number refl f)))
+        quiet w b s p _ refl (omega (arith, allowed-is (w .position) (length p))) (λ _ _ h. omega (arith, near z)) (λ j h i e. omega arith) (λ _. omega arith)
+        refl))
 
     stage-after : Able w b s → (t : Stage) → w .stage ≡ t → R p (stageWalked t w b s p)
     stage-after a Between t = between-after t a
@@ -87,15 +95,15 @@ module _ (w : Walker) (b s : List ℕ) where
     stage-after a (Stopped e) t = let h = a .walks in let z : _≡_ {A = ℕ} 0 1 = cc in absurd (omega arith)
 
   able-after : Able w b s → (p : List ℕ) → R p (walking w b s p)
-  able-after a [] = rw (walk-checked w b s (resting (w .stage)) refl (a .walks) [] (fine-of w b s a) ∙ on-empty w b s [] refl) empty-after
+  able-after a [] = rw (walk-checked w b s (resting (w .stage)) refl (a .walks) [] (fine-of w b s a) ∙ on-empty w b s [] refl) (empty-after (a .walks))
   able-after a (x ∷ xs) =
       rw (walk-checked w b s (resting (w .stage)) refl (a .walks) (x ∷ xs) (fine-of w b s a) ∙ on-stage w b s (x ∷ xs) (λ z. absurd (omega arith)) (w .stage) refl)
       (stage-after x xs a (w .stage) refl)
 
   -- a walker that is stopped or ended
-  rests-after : (p : List ℕ) (step : Step) → (resting (w .stage) ≡ Walks → ⊥) → heading (w .stage) ≡ false → ((e : Refusal) → step ≡ Refused e → w .stage ≡ Stopped e)
+  rests-after : (p : List ℕ) (step : Step) → (resting (w .stage) ≡ Walks → ⊥) → heading (w .stage) ≡ false → Follows step w
       → R p (keeps b s (stands w step))
-  rests-after p step rests h stops =
+  rests-after p step rests h follows =
       record {
         block = refl;
         store = refl;
@@ -104,7 +112,8 @@ module _ (w : Walker) (b s : List ℕ) where
         too-far = λ _ _. leaves;
         inside = λ t. absurd (false≢true (sym h ∙ ap heading t));
         begins = λ t _. absurd (false≢true (sym h ∙ ap heading t));
-        stops = stops;
+        follows = follows;
+        stays-good = λ fair. fair;
         near = omega arith;
         first = λ g _ _. absurd (rests (g .walks));
         thirteen = λ t _. absurd (rests t);
@@ -122,36 +131,36 @@ module _ (w : Walker) (b s : List ℕ) where
       by (refused e r c) = rw (walk-stopped w b s (resting (w .stage)) refl r p e c) (refused-after p e c)
       by (ended t) =
           rw (walk-over w b s p (resting (w .stage)) refl (ap resting t))
-          (rests-after p End (λ r. let z : Over ≡ Walks = sym (ap resting t) ∙ r in let y : _≡_ {A = ℕ} 0 1 = cc in omega arith) (ap heading t)
-          (λ _ f. no-number refl f))
+          (rests-after p End (λ r. let z : Over ≡ Walks = sym (ap resting t) ∙ r in let y : _≡_ {A = ℕ} 0 1 = cc in omega arith) (ap heading t) t)
       by (stopped e t) =
           rw (walk-rests w b s p (resting (w .stage)) refl e (ap resting t))
-          (rests-after p (Refused e) (λ r. let z : Stays e ≡ Walks = sym (ap resting t) ∙ r in let y : _≡_ {A = ℕ} 0 1 = cc in omega arith) (ap heading t)
-          (λ x f. t ∙ stops-by e x f))
+          (rests-after p (Refused e) (λ r. let z : Stays e ≡ Walks = sym (ap resting t) ∙ r in let y : _≡_ {A = ℕ} 0 1 = cc in omega arith) (ap heading t) t)
 
 -- the end of input
 module _ (w : Walker) (b s : List ℕ) where
   abbrev E : Walked → Type 0
   E r = AfterEnd w b s (keeps b s r)
 
-  same-end : (r : Walked) → r .walker .map ≡ w .map → (w .stage ≡ Header → told (r .step) ≡ 12 → ⊥) → ((e : Refusal) → r .step ≡ Refused e → r .walker .stage ≡ Stopped e) → E r
-  same-end r h i stops = record { block = refl; store = refl; outside = λ _. h; inside = λ t e. absurd (i t e); stops = stops }
+  same-end : (r : Walked) → r .walker .map ≡ w .map → (w .stage ≡ Header → told (r .step) ≡ 12 → ⊥) → Follows (r .step) (r .walker) → E r
+  same-end r h i follows =
+      record { block = refl; store = refl; outside = λ _. h; inside = λ t e. absurd (i t e); follows = follows; stays-good = λ fair. ap good h ∙ fair }
 
   cut-short : (w .stage ≡ Header → ⊥) → E (stopsAt w (refusal 12))
-  cut-short h = same-end _ refl (λ t _. h t) (stops-by (refusal 12))
+  cut-short h = same-end _ refl (λ t _. h t) refl
 
   no-header : (t : Stage) → w .stage ≡ t → heading t ≡ false → w .stage ≡ Header → ⊥
   no-header t e h f = false≢true (sym h ∙ ap heading (sym e ∙ f))
 
   stage-end : resting (w .stage) ≡ Walks → (t : Stage) → w .stage ≡ t → E (stageEnded t w)
-  stage-end r Between t = same-end _ refl (λ h _. apart h t) (λ _ f. no-number refl f)
+  stage-end r Between t = same-end _ refl (λ h _. apart h t) refl
   stage-end r Header t =
       record {
         block = refl;
         store = refl;
         outside = λ h. absurd (h t);
         inside = λ _ _. refl;
-        stops = stops-by (refusal 12);
+        follows = refl;
+        stays-good = emptied-good (w .map);
       }
   stage-end r Body t = cut-short (no-header Body t refl)
   stage-end r Cr t = cut-short (no-header Cr t refl)
@@ -167,28 +176,36 @@ module _ (w : Walker) (b s : List ℕ) where
       by : Standing w b s → AfterEnd w b s (ending w b s)
       by (able a) = rw (is-given (end-checked w b s (resting (w .stage)) refl (a .walks) (fine-of w b s a) (stageEnded (w .stage) w) refl)) (stage-end (a .walks) (w .stage) refl)
       by (refused e r c) =
-          let low = checks-low w (length b) (length s) e c in
-          rw (is-given (end-stopped w b s (resting (w .stage)) refl r e c)) (same-end _ refl (λ _ f. omega arith) (stops-by e))
+          let low = low-checks w b s e c in
+          rw (is-given (end-stopped w b s (resting (w .stage)) refl r e c)) (same-end _ refl (λ _ f. omega (arith, low .0)) refl)
       by (ended t) =
           rw (is-given (end-over w b s (resting (w .stage)) refl (ap resting t)))
-          (same-end _ refl (λ h f. no-header Ended t refl h) (λ _ f. no-number refl f))
+          (same-end _ refl (λ h f. no-header Ended t refl h) t)
       by (stopped e t) =
           rw (is-given (end-rests w b s (resting (w .stage)) refl e (ap resting t)))
-          (same-end _ refl (λ h f. no-header (Stopped e) t refl h) (λ y f. t ∙ stops-by e y f))
+          (same-end _ refl (λ h f. no-header (Stopped e) t refl h) t)
 
   -- one that is stopped or ended
-  pub repeats-number : (e : Refusal) → w .stage ≡ Stopped e → Repeats w b s (Refused e)
+  pub repeats-number : (e : Refusal) → w .stage ≡ Stopped e → Calls w b s (stands w (Refused e))
   repeats-number e t =
       record {
         walk = λ p. walk-rests w b s p (resting (w .stage)) refl e (ap resting t);
         end = is-given (end-rests w b s (resting (w .stage)) refl e (ap resting t));
       }
 
-  pub repeats-end : w .stage ≡ Ended → Repeats w b s End
+  pub repeats-end : w .stage ≡ Ended → Calls w b s (stands w End)
   repeats-end t =
       record {
         walk = λ p. walk-over w b s p (resting (w .stage)) refl (ap resting t);
         end = is-given (end-over w b s (resting (w .stage)) refl (ap resting t));
+      }
+
+  -- one that its first checks refuse
+  pub refused-first : (e : Refusal) → resting (w .stage) ≡ Walks → Bad e ≡ checkedWalker w (length b) (length s) → Calls w b s (stopsAt w e)
+  refused-first e r c =
+      record {
+        walk = λ p. walk-stopped w b s (resting (w .stage)) refl r p e c;
+        end = is-given (end-stopped w b s (resting (w .stage)) refl r e c);
       }
 
   -- an empty piece

@@ -1,6 +1,6 @@
 -- What the page says of a walk by a walker that goes on, by what the walk does. Assumes nothing.
 use mathlib.Core.Path.{_≡_, refl, sym, ap, _∙_, subst}
-use mathlib.Core.Bool.{Bool, true, false, false≢true}
+use mathlib.Core.Bool.{true, false, false≢true}
 use mathlib.Core.List.{List, _∷_}
 use Prim.Native.Nat.{ℕ, _+_, _-_, _≤_, _<_, min, max}
 use native.Mathlib.Omega.{arith}
@@ -9,67 +9,55 @@ use lib.Seq.{take-take, getD-take}
 use Rattle.leaves.specs.Refusals.{number, refusal}
 use Rattle.leaves.specs.declared.refusals.Refusal.{Refusal}
 use Rattle.maps.specs.Maps.{Given}
-use Rattle.maps.specs.Good.{checkedReading}
+use Rattle.maps.specs.Good.{good, checkedReading}
 use Rattle.maps.specs.declared.Checked.the-variants.{Fine}
+use Rattle.maps.proofs.GoodLaws.{checked-passes}
 use Rattle.reader.specs.Calls.{feeding}
 use Rattle.reader.specs.declared.Fed.{Fed}
-use Rattle.walker.specs.Walk.{furthest, trailer, keeps, onward, stopsAt, stopsInside, fresh, allowed, common, trailerStage, trailerWalked}
+use Rattle.walker.specs.Walk.{furthest, trailer, keeps, onward, stopsAt, stopsInside, fresh, emptied, resting, allowed, common, trailerStage, trailerWalked}
 use Rattle.walker.specs.Answers.{told}
 use Rattle.walker.specs.declared.Stage.{Stage}
 use Rattle.walker.specs.declared.Stage.the-variants.{Between, Header, Stopped}
 use Rattle.walker.specs.declared.Step.{Step}
-use Rattle.walker.specs.declared.Step.the-variants.{More, Record, Body, End, Refused}
+use Rattle.walker.specs.declared.Resting.the-variants.{Walks}
+use Rattle.walker.specs.declared.Step.the-variants.{More, Refused}
 use Rattle.walker.specs.declared.Walker.{Walker}
 use Rattle.walker.specs.declared.Walked.{Walked}
 use Rattle.walker.proofs.WalkLaws.{allowed-is, common-takes, common-stops, common-within, by-trailer}
-use Rattle.records.specs.Stages.{answer, heading, wanted, Goes, Leaves, Differs}
+use Rattle.records.specs.Stages.{answer, heading, wanted, Goes, Leaves, Follows, Differs}
 use Rattle.records.specs.Walks.{InHeader, AfterWalk}
-use Rattle.records.proofs.Feeds.{fed-nothing}
+use Rattle.records.proofs.Feeds.{emptied-good, fed-nothing}
+use Rattle.records.proofs.Able.{outside-walks, trailer-outside}
 use Rattle.records.proofs.Reach.{takes-allowed}
 
 -- an answer that is no number from 9 on
 abbrev pub Plain : ℕ → Type 0
 Plain n = (j : ℕ) → 8 < j → j < 14 → n ≡ j → ⊥
 
-pub plain-header : (g : Given Walked) (f : Given Fed) → Plain (answer g) → InHeader g f
-plain-header g f h =
+pub plain-header : (g : Given Walked) (f : Given Fed) → Plain (answer g) → (3 < answer g → answer g < 7 → Leaves (emptied (f .result .map)) (f .block) (f .store) g) → InHeader g f
+plain-header g f h four-to-six =
     record {
+      four-to-six = four-to-six;
       nine = λ e. absurd (h 9 (omega arith) (omega arith) e);
       ten = λ e. absurd (h 10 (omega arith) (omega arith) e);
       thirteen = λ e. absurd (h 13 (omega arith) (omega arith) e);
     }
 
--- where 13 is met and 11, and what stops a walker
+-- where 13 is met and 11, and the walker that is left
 pub record Numbers (w : Walker) (p : List ℕ) (r : Walked) : Type 0 where
-  pub stops : (e : Refusal) → r .step ≡ Refused e → r .walker .stage ≡ Stopped e
+  pub follows : Follows (r .step) (r .walker)
   pub near : r .taken ≤ furthest - w .position
   pub thirteen : told (r .step) ≡ 13 → (w .position + r .taken ≡ max (w .position) furthest) × (r .taken < length p)
   pub eleven : told (r .step) ≡ 11 → Differs p (wanted (w .stage)) (r .taken)
 
-pub plain-numbers : (w : Walker) (p : List ℕ) (r : Walked) → ((e : Refusal) → r .step ≡ Refused e → r .walker .stage ≡ Stopped e) → r .taken ≤ furthest - w .position
-    → Plain (told (r .step)) → Numbers w p r
-plain-numbers w p r stops near h =
+pub plain-numbers : (w : Walker) (p : List ℕ) (r : Walked) → Follows (r .step) (r .walker) → r .taken ≤ furthest - w .position → Plain (told (r .step)) → Numbers w p r
+plain-numbers w p r follows near h =
     record {
-      stops = stops;
+      follows = follows;
       near = near;
       thirteen = λ e. absurd (h 13 (omega arith) (omega arith) e);
       eleven = λ e. absurd (h 11 (omega arith) (omega arith) e);
     }
-
--- a number stops the walker
-pub stops-by : (x y : Refusal) → Refused x ≡ Refused y → Stopped x ≡ Stopped y
-stops-by x y f = let z : x ≡ y = cc in ap Stopped z
-
--- and no other answer is one
-abbrev pub isNumber : Step → Bool
-isNumber More = false
-isNumber (Record start body size kind) = false
-isNumber Body = false
-isNumber End = false
-isNumber (Refused x) = true
-
-pub no-number : {A : Type 0} {t : Step} {x : Refusal} → isNumber t ≡ false → t ≡ Refused x → A
-no-number h f = absurd (false≢true (sym h ∙ ap isNumber f))
 
 -- two stages are not one
 pub apart : {A : Type 0} {t : Stage} → t ≡ Header → t ≡ Between → A
@@ -93,26 +81,28 @@ module _ (w : Walker) (b s p : List ℕ) (r : Walked) (same : r .walker .map ≡
         too-far = λ _ _. leaves;
         inside = inside;
         begins = begins;
-        stops = n .stops;
+        follows = n .follows;
+        stays-good = λ h. ap good same ∙ h;
         near = n .near;
         first = first;
         thirteen = λ _. n .thirteen;
         eleven = λ _. n .eleven;
       }
 
-  -- one whose answer is no number from 9 on
-  pub quiet : r .taken ≤ furthest - w .position → (Goes w b s → 0 < length p → furthest ≤ w .position → ⊥) → Plain (told (r .step))
-      → ((e : Refusal) → r .step ≡ Refused e → r .walker .stage ≡ Stopped e) → AfterWalk w b s p (keeps b s r)
-  quiet near first h stops =
-      kept (plain-numbers w p r stops near h) (λ g i f. absurd (first g i f)) (λ _. plain-header _ _ h) (λ _ _. plain-header _ _ h)
+  -- one whose answer is no number from 9 on, and not 4, 5 or 6
+  pub quiet : r .taken ≤ furthest - w .position → (Goes w b s → 0 < length p → furthest ≤ w .position → ⊥) → Plain (told (r .step)) → (3 < told (r .step) → 6 < told (r .step))
+      → Follows (r .step) (r .walker) → AfterWalk w b s p (keeps b s r)
+  quiet near first h low follows =
+      kept (plain-numbers w p r follows near h) (λ g i f. absurd (first g i f)) (λ _. plain-header _ _ h (λ i j. absurd (omega (arith, low i))))
+      (λ _ _. plain-header _ _ h (λ i j. absurd (omega (arith, low i))))
 
 -- a call in a header
 module _ (w : Walker) (b s : List ℕ) (x : ℕ) (xs : List ℕ) (g : Given Walked) where
   pub in-header : drop (w .map .limit) (g .block) ≡ drop (w .map .limit) b → drop (w .map .room) (g .store) ≡ drop (w .map .room) s → heading (w .stage) ≡ true
-      → Numbers w (x ∷ xs) (g .result) → (furthest ≤ w .position → answer g ≡ 13) → (w .stage ≡ Between → w .position < furthest)
+      → good (g .result .walker .map) ≡ true → Numbers w (x ∷ xs) (g .result) → (furthest ≤ w .position → answer g ≡ 13) → (w .stage ≡ Between → w .position < furthest)
       → (w .stage ≡ Header → InHeader g (feeding (w .map) b s (take (g .result .taken) (x ∷ xs))))
       → (w .stage ≡ Between → InHeader g (feeding (fresh (w .map)) b s (take (g .result .taken) (x ∷ xs)))) → AfterWalk w b s (x ∷ xs) g
-  in-header block store t n first near inside begins =
+  in-header block store t fine n first near inside begins =
       record {
         block = block;
         store = store;
@@ -121,7 +111,8 @@ module _ (w : Walker) (b s : List ℕ) (x : ℕ) (xs : List ℕ) (g : Given Walk
         too-far = λ h i. absurd (omega (arith, near h));
         inside = inside;
         begins = λ h _. begins h;
-        stops = n .stops;
+        follows = n .follows;
+        stays-good = λ _. fine;
         near = n .near;
         first = λ _ _ h. first h;
         thirteen = λ _. n .thirteen;
@@ -133,7 +124,7 @@ module _ (w : Walker) (b s : List ℕ) (x : ℕ) (xs : List ℕ) (far : furthest
   none-taken : (r : Walked) → r .taken ≡ 0 → r .step ≡ Refused (refusal 13) → r .walker .stage ≡ Stopped (refusal 13) → Numbers w (x ∷ xs) r
   none-taken r z e t =
       record {
-        stops = λ y f. t ∙ stops-by (refusal 13) y (sym e ∙ f);
+        follows = subst (λ (u : Step). Follows u (r .walker)) (sym e) t;
         near = omega arith;
         thirteen = λ _. (omega arith, omega arith);
         eleven = λ f. let i : told (Refused (refusal 13)) ≡ 11 = sym (ap told e) ∙ f in absurd (omega arith);
@@ -145,9 +136,10 @@ module _ (w : Walker) (b s : List ℕ) (x : ℕ) (xs : List ℕ) (far : furthest
   pub far-inside : w .stage ≡ Header → Fine ≡ checkedReading (w .map) b s → AfterWalk w b s (x ∷ xs) (keeps b s (stopsInside w (refusal 13)))
   far-inside t fine =
       let e = fed-nothing (w .map) b s fine in
-      in-header w b s x xs _ refl refl (ap heading t) (none-taken _ refl refl refl) (λ _. refl) (λ h. apart t h)
+      in-header w b s x xs _ refl refl (ap heading t) (emptied-good (w .map) (checked-passes _ (w .map) (length b) (length s) fine .0)) (none-taken _ refl refl refl) (λ _. refl) (λ h. apart t h)
       (λ _.
       record {
+        four-to-six = λ i j. absurd (omega arith);
         nine = λ f. absurd (omega arith);
         ten = λ f. absurd (omega arith);
         thirteen = λ _. record { map = sym (e .map); block = sym (e .block); store = sym (e .store) };
@@ -177,9 +169,9 @@ module _ (w : Walker) (b s p : List ℕ) (past : ℕ) (low : past < 4) (outside 
   no-between : w .stage ≡ Between → ⊥
   no-between e = false≢true (sym outside ∙ ap heading e)
 
-  goes-on : (t : Stage) → (0 < length p → furthest ≤ w .position → ⊥) → T (onward w t same More)
-  goes-on t near =
-      quiet w b s p _ refl (omega (arith, within, k-is)) (λ _. near) (λ j h i e. omega arith) (λ _ f. no-number refl f)
+  goes-on : (t : Stage) → resting t ≡ Walks → (0 < length p → furthest ≤ w .position → ⊥) → T (onward w t same More)
+  goes-on t walks near =
+      quiet w b s p _ refl (omega (arith, within, k-is)) (λ _. near) (λ j h i e. omega arith) (λ _. omega arith) walks
 
   -- a number that stops the walker in the trailer
   stopping : (x : Refusal) → (furthest ≤ w .position → number x ≡ 13) → Numbers w p (onward w (Stopped x) same (Refused x)) → T (onward w (Stopped x) same (Refused x))
@@ -189,7 +181,7 @@ module _ (w : Walker) (b s p : List ℕ) (past : ℕ) (low : past < 4) (outside 
   differs d i =
       stopping (refusal 11) (λ f. absurd (omega (arith, k-is)))
       (record {
-        stops = stops-by (refusal 11);
+        follows = refl;
         near = omega (arith, within, k-is);
         thirteen = λ e. absurd (omega arith);
         eleven =
@@ -212,7 +204,7 @@ module _ (w : Walker) (b s p : List ℕ) (past : ℕ) (low : past < 4) (outside 
   too-far i j =
       stopping (refusal 13) (λ _. refl)
       (record {
-        stops = stops-by (refusal 13);
+        follows = refl;
         near = omega (arith, within, k-is);
         thirteen = λ _. (omega (arith, within, k-is), omega (arith, within));
         eleven = λ e. absurd (omega arith);
@@ -220,5 +212,5 @@ module _ (w : Walker) (b s p : List ℕ) (past : ℕ) (low : past < 4) (outside 
 
   pub trailer-after : T (trailerWalked w past p)
   trailer-after =
-      by-trailer T w past p (λ d. goes-on Between (λ h i. omega (arith, within, k-is, d, low))) differs (λ d i j. too-far i j)
-      (λ d i j. goes-on (trailerStage (past + same)) (λ h f. omega (arith, k-is)))
+      by-trailer T w past p (λ d. goes-on Between refl (λ h i. omega (arith, within, k-is, d, low))) differs (λ d i j. too-far i j)
+      (λ d i j. goes-on (trailerStage (past + same)) (outside-walks (trailerStage (past + same)) (trailer-outside (past + same))) (λ h f. omega (arith, k-is)))

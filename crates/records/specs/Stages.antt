@@ -12,6 +12,8 @@ use Rattle.walker.specs.Answers.{told}
 use Rattle.walker.specs.declared.Stage.{Stage}
 use Rattle.walker.specs.declared.Stage.the-variants.{Between, Header, Body, Cr, Lf, LastCr, LastLf, Ended, Stopped}
 use Rattle.walker.specs.declared.Resting.the-variants.{Walks}
+use Rattle.walker.specs.declared.Step.{Step}
+use Rattle.walker.specs.declared.Step.the-variants.{More, Record, Body as Part, End, Refused}
 use Rattle.walker.specs.declared.Walker.{Walker}
 use Rattle.walker.specs.declared.Walked.{Walked}
 
@@ -53,6 +55,15 @@ pub record Leaves (m : HeaderMap) (b s : List ℕ) (g : Given Walked) : Type 0 w
   pub map : g .result .walker .map ≡ m
   pub block : g .block ≡ b
   pub store : g .store ≡ s
+
+-- what an answer says of the walker that is left: "walker stops", "an ended one"; a record that was told is the one whose body is next, a part of a body
+-- leaves that body, and more a walker that goes on
+abbrev pub Follows : Step → Walker → Type 0
+Follows More w = resting (w .stage) ≡ Walks
+Follows (Record start body size kind) w = (w .stage ≡ Body) × (w .start ≡ start) × (w .position ≡ body) × (w .rest ≡ size)
+Follows Part w = w .stage ≡ Body
+Follows End w = w .stage ≡ Ended
+Follows (Refused e) w = w .stage ≡ Stopped e
 
 -- the octets in front of the octet number n of a piece are the first of those that are wanted, and that octet is not the next one
 pub record Differs (p wants : List ℕ) (n : ℕ) : Type 0 where

@@ -1,5 +1,5 @@
 -- What the walker's calls give, case by case. Assumes nothing.
-use mathlib.Core.Path.{_≡_, refl, sym, ap, _∙_}
+use mathlib.Core.Path.{_≡_, refl, sym, ap, _∙_, subst}
 use mathlib.Core.Bool.{Bool, true, false}
 use mathlib.Core.List.{List, [], _∷_}
 use Prim.Native.Nat.{ℕ, suc, _+_, _-_, _≤_, _<_, min}
@@ -13,7 +13,6 @@ use Rattle.leaves.specs.Choice.{if_then_else_}
 use Rattle.leaves.proofs.ChoiceLaws.{by-if, if-true, if-false}
 use Rattle.leaves.specs.declared.refusals.Refusal.{Refusal}
 use Rattle.leaves.specs.declared.refusals.Refusal.the-variants.{ShortLoan, BadMap, WrongPhase, BadTrailer, TooFar}
-use Rattle.leaves.specs.Refusals.{number}
 use Rattle.maps.specs.Good.{defaultLimit, good, lent, checked, unless}
 use Rattle.maps.specs.Maps.{empty, Given, Is}
 use Rattle.maps.specs.declared.Phase.the-variants.{Reading, Done}
@@ -68,27 +67,28 @@ module _ (w : Walker) (b s : ℕ) where
   rest-fine h r e c f = f ∙ ap (λ (t : Bool). checked t (w .map) b s) e ∙ sym (if-false _ _ (le-ltb _ _ h))
 
 -- they give 2, 3 or 7
-checked-low : (ready : Bool) (m : HeaderMap) (b s : ℕ) (x : Refusal) → Bad x ≡ checked ready m b s → number x < 8
-checked-low ready m b s x e = by (good m) refl (lent m b s) refl ready refl
-  where
-    same : (y : Refusal) → Bad y ≡ checked ready m b s → number y < 8 → number x < 8
-    same y f h = let z : y ≡ x = cc in omega (arith, ap number z)
+module _ (P : Refusal → Type 0) (two : P ShortLoan) (three : P BadMap) (seven : P WrongPhase) where
+  checked-gives : (ready : Bool) (m : HeaderMap) (b s : ℕ) (x : Refusal) → Bad x ≡ checked ready m b s → P x
+  checked-gives ready m b s x e = by (good m) refl (lent m b s) refl ready refl
+    where
+      same : (y : Refusal) → Bad y ≡ checked ready m b s → P y → P x
+      same y f h = let z : y ≡ x = cc in subst P z h
 
-    by : (g : Bool) → good m ≡ g → (l : Bool) → lent m b s ≡ l → (r : Bool) → ready ≡ r → number x < 8
-    by false d l f r h = same BadMap (checked-bad ready m b s d) (omega arith)
-    by true d false f r h = same ShortLoan (checked-short ready m b s d f) (omega arith)
-    by true d true f false h = same WrongPhase (checked-wrong ready m b s d f h) (omega arith)
-    by true d true f true h = not-refused x (checked-fine ready m b s d f h ∙ sym e)
+      by : (g : Bool) → good m ≡ g → (l : Bool) → lent m b s ≡ l → (r : Bool) → ready ≡ r → P x
+      by false d l f r h = same BadMap (checked-bad ready m b s d) three
+      by true d false f r h = same ShortLoan (checked-short ready m b s d f) two
+      by true d true f false h = same WrongPhase (checked-wrong ready m b s d f h) seven
+      by true d true f true h = not-refused x (checked-fine ready m b s d f h ∙ sym e)
 
-pub checks-low : (w : Walker) (b s : ℕ) (x : Refusal) → Bad x ≡ checkedWalker w b s → number x < 8
-checks-low w b s x e = by (ltb longest (w .rest)) refl
-  where
-    by : (t : Bool) → ltb longest (w .rest) ≡ t → number x < 8
-    by true f =
-        let h = rest-over w b s (ltb-true longest (w .rest) f) in
-        let z : BadMap ≡ x = cc in
-        omega (arith, ap number z)
-    by false f = checked-low _ (w .map) b s x (e ∙ sym (rest-fine w b s (ltb-false longest (w .rest) f) _ refl _ refl))
+  pub checks-give : (w : Walker) (b s : ℕ) (x : Refusal) → Bad x ≡ checkedWalker w b s → P x
+  checks-give w b s x e = by (ltb longest (w .rest)) refl
+    where
+      by : (t : Bool) → ltb longest (w .rest) ≡ t → P x
+      by true f =
+          let h = rest-over w b s (ltb-true longest (w .rest) f) in
+          let z : BadMap ≡ x = cc in
+          subst P z three
+      by false f = checked-gives _ (w .map) b s x (e ∙ sym (rest-fine w b s (ltb-false longest (w .rest) f) _ refl _ refl))
 
 -- a body
 module _ (w : Walker) (k : ℕ) where
