@@ -26,6 +26,7 @@ use Rattle.readings.specs.Heard.{Hearing}
 use Rattle.readings.specs.Listening.{Listening, silent, listening, lastHeard, said, hearingOf, atBlank, refused, answered, listeningOf}
 use Rattle.readings.specs.Hears.{saysThen, soFar, Told, Hears}
 use Rattle.readings.proofs.Kept.{Sound, Later, fed-later, finished-later, sound-of}
+use Rattle.readings.proofs.Ends.{ends-begun}
 use Rattle.readings.proofs.Stopped.{feed-leaves, finish-leaves}
 use Rattle.readings.proofs.Cut.{fed-goes, finish-goes}
 use Rattle.readings.proofs.ListeningLaws.{same-listening, Listens, fed-listens, finished-hears, begun-listens}
@@ -125,6 +126,7 @@ hears =
       heard = λ m b s p e. fed-told m b s e p;
       heard-at-end = finished-told;
       begun = begun-told;
+      begun-at-end = ends-begun;
       left = λ m b s p e. feed-leaves m b s e p;
       left-at-end = finish-leaves;
     }

@@ -6,5 +6,6 @@ pub mod RuleHeard
 pub mod ListeningLaws
 pub mod MapSays
 pub mod Begun
+pub mod Ends
 pub mod Stopped
 pub mod HearsHold

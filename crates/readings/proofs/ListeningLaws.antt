@@ -192,7 +192,7 @@ module _ (R : Rules) where
       let z : length (r .block) ≤ r .line = ltb-false (r .line) (length (r .block)) d in
       sym (ap (λ (t : List ℕ). lastHeard t (hearingOf r)) (drop-of-length-le (r .block) z))))
 
-  thrifty-begun : (status : Bool) → Thrifty R (begun status)
+  pub thrifty-begun : (status : Bool) → Thrifty R (begun status)
   unfolding lastOf
   thrifty-begun status = record { sound = begun-sound R status; owes = omega arith; notSix = λ z. omega arith }
 

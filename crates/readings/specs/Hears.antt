@@ -53,6 +53,11 @@ pub record Hears : Type 0 where
   pub begun : (m : HeaderMap) (limit room : ℕ) (status quirks : Bool) (b s p : List ℕ) → Fine ≡ checkedRooms limit room (length b) (length s)
       → let l = listening quirks (silent status) p in
       l .count ≤ limit → length (l .hearing .said .pairs) ≤ 256 → Told 0 l (feeding (beginning m limit room status quirks b s .result .map) b s p)
+  pub begun-at-end : (m : HeaderMap) (limit room : ℕ) (status quirks : Bool) (b s p : List ℕ) → Fine ≡ checkedRooms limit room (length b) (length s)
+      → let l = listening quirks (silent status) p in
+      l .ended ≡ false → l .count ≤ limit → length (l .hearing .said .pairs) ≤ 256 → length (lastHeard (l .line) (l .hearing) .said .pairs) ≤ 256
+      → let g = feeding (beginning m limit room status quirks b s .result .map) b s p in
+      finishing (g .result .map) (g .block) (g .store) .result .answer ≡ Input
   -- a feed and a finish, whatever their answer, leave what `Leaves` says
   pub left : (m : HeaderMap) (b s p : List ℕ) → Fine ≡ checkedReading m b s → Leaves m b s p (fed (rulesOf m) (readingOf m b s) p) (feeding m b s p)
   pub left-at-end : (m : HeaderMap) (b s : List ℕ) → Fine ≡ checkedReading m b s → Leaves m b s [] (finished (rulesOf m) (readingOf m b s)) (finishing m b s)
