@@ -20,6 +20,7 @@ use Rattle.reader.specs.declared.Answer.{Answer}
 use Rattle.reader.specs.declared.Answer.the-variants.{More, Blank, Input, Refused}
 use Rattle.maps.proofs.FitLaws.{all-mono, status-mono}
 use Rattle.reader.proofs.OctetSteps.{still}
+use Rattle.reader.proofs.Steps.{lined-block}
 use Rattle.readings.specs.Heard.{Hearing, heard}
 use Rattle.readings.specs.Listening.{Listening, silent, lineHeard, listened, listening, lastHeard, said, hearingOf, atBlank, refused, answered, listeningOf}
 use Rattle.readings.proofs.Kept.{Sound, fed-later, begun-sound}
@@ -217,12 +218,6 @@ module _ (R : Rules) where
       choose Blank e h = ap refused e
       choose Input e h = ap refused e
       choose (Refused x) e h = absurd (fed-thrifty R rooms (begun status) os (thrifty-begun status) .notSix (ap told e ∙ h c few))
-
-  lined-block : (r : Reading) (a : Answer) (new : List ℕ) (c : Change) → lined r a new c .block ≡ r .block
-  lined-block r a new Nothing = refl
-  lined-block r a new (Headed p) = refl
-  lined-block r a new (Put slot x to) = refl
-  lined-block r a new (Stops e) = refl
 
   closed-block : (r : Reading) → closed R r .block ≡ r .block
   unfolding closed

@@ -1,4 +1,4 @@
--- What a reading says, stated of begin, feed and finish in octets alone. Assumes nothing.
+-- The page to believe, of readings: what begin, feed and finish say, in octets alone, and what they leave. `proofs/HearsHold` inhabits `Hears`. Assumes nothing.
 use mathlib.Core.Path.{_≡_}
 use mathlib.Core.Bool.{Bool, false}
 use mathlib.Core.List.{List, []}
@@ -53,6 +53,7 @@ pub record Hears : Type 0 where
   pub begun : (m : HeaderMap) (limit room : ℕ) (status quirks : Bool) (b s p : List ℕ) → Fine ≡ checkedRooms limit room (length b) (length s)
       → let l = listening quirks (silent status) p in
       l .count ≤ limit → length (l .hearing .said .pairs) ≤ 256 → Told 0 l (feeding (beginning m limit room status quirks b s .result .map) b s p)
+  -- nor is the end of input behind them, if the leftover line says no 257th
   pub begun-at-end : (m : HeaderMap) (limit room : ℕ) (status quirks : Bool) (b s p : List ℕ) → Fine ≡ checkedRooms limit room (length b) (length s)
       → let l = listening quirks (silent status) p in
       l .ended ≡ false → l .count ≤ limit → length (l .hearing .said .pairs) ≤ 256 → length (lastHeard (l .line) (l .hearing) .said .pairs) ≤ 256
