@@ -1,4 +1,4 @@
-// What each call answers, as a number: 0 for done, 1 to 13 for the refusals, the others from 16 on.
+// What each call answers, as a number: 0 for done, 1 to 13 for the refusals, the others from 64 on.
 use codes::Kind;
 use codes::Length;
 use codes::line::Code;
@@ -31,15 +31,15 @@ pub const DONE: u32 = 0;
 // Octets that are no map's or no walker's.
 pub const DAMAGED: u32 = 3;
 
-pub const MISSING: u32 = 20;
+pub const MISSING: u32 = 68;
 
-pub const YES: u32 = 21;
+pub const YES: u32 = 69;
 
-pub const NO: u32 = 22;
+pub const NO: u32 = 70;
 
-pub const IN_BLOCK: u32 = 23;
+pub const IN_BLOCK: u32 = 71;
 
-pub const IN_STORE: u32 = 24;
+pub const IN_STORE: u32 = 72;
 
 pub fn refused(e: Refusal) -> u32
     ensures { λ r. ⌜ r ≡ number e ⌝ }
@@ -61,9 +61,9 @@ pub fn read(a: Answer) -> u32
     ensures { λ r. ⌜ r ≡ answerOf a ⌝ }
 {
     match a {
-        Answer::More => 16,
-        Answer::Blank => 17,
-        Answer::Input => 18,
+        Answer::More => 64,
+        Answer::Blank => 65,
+        Answer::Input => 66,
         Answer::Refused(e) => refused(e),
     }
 }
@@ -81,8 +81,8 @@ pub fn found(f: Found) -> u32
     ensures { λ r. ⌜ r ≡ foundOf f ⌝ }
 {
     match f {
-        Found::At(i) => 19,
-        Found::Missing => 20,
+        Found::At(i) => 67,
+        Found::Missing => 68,
         Found::Refused(e) => refused(e),
     }
 }
@@ -100,8 +100,8 @@ pub fn compared(e: Equal) -> u32
     ensures { λ r. ⌜ r ≡ equalOf e ⌝ }
 {
     match e {
-        Equal::Yes => 21,
-        Equal::No => 22,
+        Equal::Yes => 69,
+        Equal::No => 70,
         Equal::Refused(x) => refused(x),
     }
 }
@@ -110,8 +110,8 @@ pub fn tested(t: Test) -> u32
     ensures { λ r. ⌜ r ≡ testOf t ⌝ }
 {
     match t {
-        Test::Yes => 21,
-        Test::No => 22,
+        Test::Yes => 69,
+        Test::No => 70,
         Test::Refused(x) => refused(x),
     }
 }
@@ -120,8 +120,8 @@ pub fn coded(c: Code) -> u32
     ensures { λ r. ⌜ r ≡ codeOf c ⌝ }
 {
     match c {
-        Code::Is(n) => 19,
-        Code::None => 20,
+        Code::Is(n) => 67,
+        Code::None => 68,
         Code::Refused(x) => refused(x),
     }
 }
@@ -130,8 +130,8 @@ pub fn measured(l: Length) -> u32
     ensures { λ r. ⌜ r ≡ lengthOf l ⌝ }
 {
     match l {
-        Length::Is(n) => 19,
-        Length::Missing => 20,
+        Length::Is(n) => 67,
+        Length::Missing => 68,
         Length::Refused(x) => refused(x),
     }
 }
@@ -140,7 +140,7 @@ pub fn typed(k: Kind) -> u32
     ensures { λ r. ⌜ r ≡ kindOf k ⌝ }
 {
     match k {
-        Kind::Is(n) => 19,
+        Kind::Is(n) => 67,
         Kind::Refused(x) => refused(x),
     }
 }
@@ -149,10 +149,10 @@ pub fn walked(s: Step) -> u32
     ensures { λ r. ⌜ r ≡ stepOf s ⌝ }
 {
     match s {
-        Step::More => 16,
-        Step::Record(a, b, c, d) => 25,
-        Step::Body => 26,
-        Step::End => 27,
+        Step::More => 64,
+        Step::Record(a, b, c, d) => 73,
+        Step::Body => 74,
+        Step::End => 75,
         Step::Refused(e) => refused(e),
     }
 }
@@ -174,10 +174,10 @@ pub fn judged(v: Verdict) -> u32
     ensures { λ r. ⌜ r ≡ verdictOf v ⌝ }
 {
     match v {
-        Verdict::Append => 32,
-        Verdict::NoTag => 33,
-        Verdict::Differ => 34,
-        Verdict::NotPartial => 35,
+        Verdict::Append => 80,
+        Verdict::NoTag => 81,
+        Verdict::Differ => 82,
+        Verdict::NotPartial => 83,
         Verdict::Refused(e) => refused(e),
     }
 }

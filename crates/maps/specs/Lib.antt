@@ -1,5 +1,6 @@
 pub mod Places
 pub mod Good
 pub mod Maps
+pub mod Heads
 pub mod Said
 pub mod Answers

@@ -85,6 +85,21 @@ impl HeaderMap {
     }
 }
 
+// A map but for its table.
+pub struct Head {
+    pub limit: usize,
+    pub room: usize,
+    pub count: usize,
+    pub line: usize,
+    pub mark: usize,
+    pub fields: usize,
+    pub status: Status,
+    pub awaits: bool,
+    pub quirks: bool,
+    pub edited: bool,
+    pub phase: Phase,
+}
+
 // What a call's first checks say.
 pub enum Checked {
     Fine,
@@ -170,7 +185,7 @@ fn good_place(p: Place, count: usize, mark: usize) -> bool
     }
 }
 
-fn good_status(s: Status, count: usize, mark: usize) -> bool
+pub fn good_status(s: Status, count: usize, mark: usize) -> bool
     ensures { λ r. ⌜ r ≡ goodStatus count mark s ⌝ }
 {
     match s {
@@ -179,7 +194,7 @@ fn good_status(s: Status, count: usize, mark: usize) -> bool
     }
 }
 
-fn good_field(f: Field, count: usize, mark: usize) -> bool
+pub fn good_field(f: Field, count: usize, mark: usize) -> bool
     ensures { λ r. ⌜ r ≡ goodField count mark f ⌝ }
 {
     let key = f.key;
@@ -219,7 +234,7 @@ pub fn good_rooms(limit: usize, room: usize) -> bool
     false
 }
 
-fn good_counts(
+pub fn good_counts(
     limit: usize,
     room: usize,
     count: usize,

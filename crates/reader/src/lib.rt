@@ -3,6 +3,7 @@ use folds::Change;
 use leaves::refusals::Refusal;
 use lines::Took;
 use maps::Checked;
+use maps::Head;
 use maps::HeaderMap;
 use maps::Phase;
 use maps::Status;
@@ -12,7 +13,8 @@ ghost use Rattle.leaves.specs.Octets.{before};
 ghost use Rattle.maps.specs.Good.{Ready};
 ghost use Rattle.maps.specs.Maps.{Is};
 ghost use Rattle.reader.specs.Lying.{Lying};
-ghost use Rattle.reader.specs.Heads.{emptyHead, headAfter, headWhen};
+ghost use Rattle.maps.specs.Heads.{emptyHead};
+ghost use Rattle.reader.specs.Heads.{headAfter, headWhen};
 ghost use Rattle.reader.specs.Calls.{checkedRooms, fedFrom, finishedFrom, feeding, finishing, clearing, beginning};
 
 // What a piece, or the end of input, did: more is wanted, a blank line or the end of input closed the reading, or a refusal.
@@ -33,21 +35,6 @@ pub struct Fed {
 pub struct Made {
     pub map: HeaderMap,
     pub answer: Checked,
-}
-
-// A map but for its table. A map is built in one place of a function from one of these: each further place would copy the table.
-struct Head {
-    pub limit: usize,
-    pub room: usize,
-    pub count: usize,
-    pub line: usize,
-    pub mark: usize,
-    pub fields: usize,
-    pub status: Status,
-    pub awaits: bool,
-    pub quirks: bool,
-    pub edited: bool,
-    pub phase: Phase,
 }
 
 fn empty_head(limit: usize, room: usize, awaits: bool, quirks: bool, phase: Phase) -> Head
