@@ -1,0 +1,108 @@
+// A map in lent numbers: thirteen for its head, four to a field for its table, so that no call copies the table.
+pub mod heads;
+pub mod tables;
+
+use leaves::refusals::Refusal;
+use maps::Checked;
+use maps::Field;
+use maps::Head;
+use maps::HeaderMap;
+ghost use mathlib.Core.Path.{_≡_};
+ghost use Prim.Native.Nat.{_≤_};
+ghost use lib.ListN.{length, take};
+ghost use Rattle.leaves.specs.Paste.{lay};
+ghost use Rattle.maps.specs.Good.{FitAll, good, checked};
+ghost use Rattle.lent.specs.Table.{tableOf, mapIn, liveIn};
+
+// 3 is not given: the map is good.
+fn is_good(h: Head, t: &[u32]) -> bool
+    requires { ⌜ length (now t) ≡ 1024 ⌝ }
+    ensures { λ r. ⌜ r ≡ good (mapIn (now (t .entry)) h) ⌝ }
+{
+    let limit = h.limit;
+    let room = h.room;
+    let count = h.count;
+    let mark = h.mark;
+    let fields = h.fields;
+    let status = h.status;
+    if maps::good_rooms(limit, room) {
+        if maps::good_counts(limit, room, count, mark, h.line, fields) {
+            if maps::good_status(status, count, mark) {
+                return tables::good_fields(t, fields, count, mark);
+            }
+            return false;
+        }
+        return false;
+    }
+    false
+}
+
+// What every call but begin checks first: 3, 2, 7. Ready says whether the map's phase is the one that the call wants.
+pub fn check(h: Head, t: &[u32], ready: bool, block: usize, store: usize) -> Checked
+    requires { ⌜ length (now t) ≡ 1024 ⌝ }
+    ensures { λ r. ⌜ r ≡ checked ready (mapIn (now (t .entry)) h) block store ⌝ }
+{
+    let limit = h.limit;
+    let room = h.room;
+    if is_good(h, t) {
+        if limit <= block {
+            if room <= store {
+                if ready {
+                    return Checked::Fine;
+                }
+                return Checked::Refused(Refusal::WrongPhase);
+            }
+            return Checked::Refused(Refusal::ShortLoan);
+        }
+        return Checked::Refused(Refusal::ShortLoan);
+    }
+    Checked::Refused(Refusal::BadMap)
+}
+
+// The map by value, with the fields that count alone.
+pub fn live_map(h: Head, t: &[u32]) -> HeaderMap
+    requires { ⌜ length (now t) ≡ 1024 ⌝ }
+    ensures { λ r. ⌜ r ≡ liveIn (now (t .entry)) h ⌝ }
+{
+    let m = HeaderMap::new();
+    let mut table = m.table;
+    let mut n = h.fields;
+    if maps::FIELDS < n {
+        n = maps::FIELDS;
+    }
+    let mut i = 0;
+    while i < n {
+        let f = tables::field_at(t, i);
+        table[i] = f;
+        i += 1;
+    }
+    let status = h.status;
+    let phase = h.phase;
+    HeaderMap {
+        table,
+        limit: h.limit,
+        room: h.room,
+        count: h.count,
+        line: h.line,
+        mark: h.mark,
+        fields: h.fields,
+        status,
+        awaits: h.awaits,
+        quirks: h.quirks,
+        edited: h.edited,
+        phase,
+    }
+}
+
+// The first n fields of a table by value, over the lent one's start.
+pub fn put_fields(table: [Field; 256], n: usize, t: &mut [u32])
+    requires { ⌜ (n ≤ 256) × (length (now t) ≡ 1024) × FitAll 65536 65536 (take n table) ⌝ }
+    ensures { λ _. ⌜ (tableOf (now (t .exit)) ≡ lay (tableOf (now (t .entry))) (take n table)) × (length (now (t .exit)) ≡ 1024) ⌝ }
+{
+    let mut i = 0;
+    while i < n {
+        let f = table[i];
+        tables::put_field(t, i, f);
+        i += 1;
+    }
+}
