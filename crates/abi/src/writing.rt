@@ -18,16 +18,17 @@ fn put_count(w: Wrote, count: &mut u64)
 // The block as it was read, or the map rebuilt.
 #[no_mangle]
 pub extern "C" fn bisquecrow_write<'a>(
-    map: &[u8],
+    head: &[u64],
+    table: &[u32],
     block: &'a [u8],
     store: &'a [u8],
     out: &mut [u8],
     count: &mut u64,
 ) -> u32
-    ensures { λ r. ⌜ Puts (writePuts (now (map .entry)) (now (count .entry)) (now (block .entry)) (now (store .entry)) (now (out .entry))) r (now (count .exit)) (now (out .exit)) ⌝ }
+    ensures { λ r. ⌜ Puts (writePuts (now (head .entry)) (now (table .entry)) (now (count .entry)) (now (block .entry)) (now (store .entry)) (now (out .entry))) r (now (count .exit)) (now (out .exit)) ⌝ }
 {
-    if encoded::is_sound(map) {
-        let m = encoded::decode(map);
+    if lent::is_sound(head, table) {
+        let m = lent::live_at(head, table);
         let w = writes::write(m, block, store, out);
         put_count(w, count);
         return answers::wrote(w);
@@ -38,16 +39,17 @@ pub extern "C" fn bisquecrow_write<'a>(
 // The map rebuilt, whatever it was read from.
 #[no_mangle]
 pub extern "C" fn bisquecrow_rebuild<'a>(
-    map: &[u8],
+    head: &[u64],
+    table: &[u32],
     block: &'a [u8],
     store: &'a [u8],
     out: &mut [u8],
     count: &mut u64,
 ) -> u32
-    ensures { λ r. ⌜ Puts (rebuildPuts (now (map .entry)) (now (count .entry)) (now (block .entry)) (now (store .entry)) (now (out .entry))) r (now (count .exit)) (now (out .exit)) ⌝ }
+    ensures { λ r. ⌜ Puts (rebuildPuts (now (head .entry)) (now (table .entry)) (now (count .entry)) (now (block .entry)) (now (store .entry)) (now (out .entry))) r (now (count .exit)) (now (out .exit)) ⌝ }
 {
-    if encoded::is_sound(map) {
-        let m = encoded::decode(map);
+    if lent::is_sound(head, table) {
+        let m = lent::live_at(head, table);
         let w = writes::rebuild(m, block, store, out);
         put_count(w, count);
         return answers::wrote(w);
