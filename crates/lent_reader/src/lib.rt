@@ -33,13 +33,7 @@ pub struct MadeHead {
 }
 
 // Feeds a good map, line by line.
-fn feed_lines(
-    h: Head,
-    t: &mut [u32],
-    block: &mut [u8],
-    store: &mut [u8],
-    piece: &[u8],
-) -> FedHead
+fn feed_lines(h: Head, t: &mut [u32], block: &mut [u8], store: &mut [u8], piece: &[u8]) -> FedHead
     requires { ⌜ (length (now t) ≡ 1024) × Ready (mapIn (now t) h) (now block) (now store) ⌝ }
     ensures { λ r. ⌜ Is (fedFrom (mapIn (now (t .entry)) h) (now (block .entry)) (now (store .entry)) (now (piece .entry))) (fedIn (now (t .exit)) r) (now (block .exit)) (now (store .exit)) ⌝ }
 {
@@ -145,13 +139,7 @@ fn feed_lines(
 }
 
 // Feeds a piece of a block to a map.
-pub fn feed(
-    h: Head,
-    t: &mut [u32],
-    block: &mut [u8],
-    store: &mut [u8],
-    piece: &[u8],
-) -> FedHead
+pub fn feed(h: Head, t: &mut [u32], block: &mut [u8], store: &mut [u8], piece: &[u8]) -> FedHead
     requires { ⌜ length (now t) ≡ 1024 ⌝ }
     ensures { λ r. ⌜ Is (feeding (mapIn (now (t .entry)) h) (now (block .entry)) (now (store .entry)) (now (piece .entry))) (fedIn (now (t .exit)) r) (now (block .exit)) (now (store .exit)) ⌝ }
 {

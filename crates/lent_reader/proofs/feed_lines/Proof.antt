@@ -337,10 +337,12 @@ loop-again-6 c =
     let v = rw (c .before .before .before .before .before .change2 .given .1, f) at (r .line-change .ensures) in
     let h = held-line (l .loop .inv .2) g _ _ (k .take-line .kept .1 .1 .0) t in
     let q = puts h (l .loop .awaits) _ noField (o .last-of .ensures) _ (r .line-change .kept .1 .1 .0) _ _ _ v in
-    let u = fields-set (l .loop .t) _ _ (l .loop .inv .1 ∙ l .loop .inv .0) (q .few) (put-fit h q) in
-    (l .loop .inv .0, c .before .before .put-field .kept .0 ∙ l .loop .inv .1,
-    rw (c .before .before .put-field .ensures, u)
-    (feed-put (l .loop .inv .2) g _ _ (k .take-line .kept .1 .1 .0) t (sym (e .ends-block .ensures) ∙ o .before .before .if1 .left) _ noField (o .last-of .ensures) _ (r .line-change .kept .1 .1 .0) _ _ _ v))
+    let u = fields-set (l .loop .t) _ _ (l .loop .inv .1 ∙ l .loop .inv .0) (q .few) (put-fit h q) in (
+      l .loop .inv .0,
+      c .before .before .put-field .kept .0 ∙ l .loop .inv .1,
+      rw (c .before .before .put-field .ensures, u)
+          (feed-put (l .loop .inv .2) g _ _ (k .take-line .kept .1 .1 .0) t (sym (e .ends-block .ensures) ∙ o .before .before .if1 .left) _ noField (o .last-of .ensures) _ (r .line-change .kept .1 .1 .0) _ _ _ v),
+    )
 
 enum-known-change-3 : tie.Need-enum-known-change-3 Inv-loop μ-loop
 enum-known-change-3 c = search needs
