@@ -178,8 +178,11 @@ loop-again-3 c =
     let k = w .before .before .before .before in
     let l = k .before .before .before in
     let t = rw (w .took3 .given .1) at (k .take-line .ensures) in
-    let g = k .before .before .loop-test .taken in
-    (l .loop .inv .0, l .loop .inv .1, feed-blank (l .loop .inv .2) g _ _ (k .take-line .kept .1 .1 .0) t (sym (e .ends-block .ensures) ∙ c .if1 .taken))
+    let g = k .before .before .loop-test .taken in (
+      l .loop .inv .0,
+      l .loop .inv .1,
+      feed-blank (l .loop .inv .2) g _ _ (k .take-line .kept .1 .1 .0) t (sym (e .ends-block .ensures) ∙ c .if1 .taken),
+    )
 
 last-of-requires : tie.Need-last-of-requires Inv-loop μ-loop
 last-of-requires c κs = search needs
@@ -242,8 +245,11 @@ loop-again-4 c =
     let l = k .before .before .before in
     let t = rw (w .took3 .given .1) at (k .take-line .ensures) in
     let g = k .before .before .loop-test .taken in
-    let f = last-field (l .loop .t) _ _ _ (o .last-of .ensures) (l .loop .inv .2 .held .few) (o2 .field-at .ensures) in
-    (l .loop .inv .0, l .loop .inv .1, feed-nothing (l .loop .inv .2) g _ _ (k .take-line .kept .1 .1 .0) t (sym (e .ends-block .ensures) ∙ o .before .before .if1 .left) _ noField (o .last-of .ensures) _ (r .line-change .kept .1 .1 .0) (rw (c .enum-told .given .1, f) at (r .line-change .ensures)))
+    let f = last-field (l .loop .t) _ _ _ (o .last-of .ensures) (l .loop .inv .2 .held .few) (o2 .field-at .ensures) in (
+      l .loop .inv .0,
+      l .loop .inv .1,
+      feed-nothing (l .loop .inv .2) g _ _ (k .take-line .kept .1 .1 .0) t (sym (e .ends-block .ensures) ∙ o .before .before .if1 .left) _ noField (o .last-of .ensures) _ (r .line-change .kept .1 .1 .0) (rw (c .enum-told .given .1, f) at (r .line-change .ensures)),
+    )
 
 enum-known-change : tie.Need-enum-known-change Inv-loop μ-loop
 enum-known-change c = search needs
@@ -272,8 +278,11 @@ loop-again-5 c =
     let l = k .before .before .before in
     let t = rw (w .took3 .given .1) at (k .take-line .ensures) in
     let g = k .before .before .loop-test .taken in
-    let f = last-field (l .loop .t) _ _ _ (o .last-of .ensures) (l .loop .inv .2 .held .few) (o2 .field-at .ensures) in
-    (l .loop .inv .0, l .loop .inv .1, feed-head (l .loop .inv .2) g _ _ (k .take-line .kept .1 .1 .0) t (sym (e .ends-block .ensures) ∙ o .before .before .if1 .left) _ noField (o .last-of .ensures) _ (r .line-change .kept .1 .1 .0) _ (rw (c .before .change .given .1, f) at (r .line-change .ensures)))
+    let f = last-field (l .loop .t) _ _ _ (o .last-of .ensures) (l .loop .inv .2 .held .few) (o2 .field-at .ensures) in (
+      l .loop .inv .0,
+      l .loop .inv .1,
+      feed-head (l .loop .inv .2) g _ _ (k .take-line .kept .1 .1 .0) t (sym (e .ends-block .ensures) ∙ o .before .before .if1 .left) _ noField (o .last-of .ensures) _ (r .line-change .kept .1 .1 .0) _ (rw (c .before .change .given .1, f) at (r .line-change .ensures)),
+    )
 
 enum-known-change-2 : tie.Need-enum-known-change-2 Inv-loop μ-loop
 enum-known-change-2 c = search needs
@@ -371,8 +380,11 @@ loop-again-7 c =
     let l = k .before .before .before in
     let t = rw (w .took3 .given .1) at (k .take-line .ensures) in
     let g = k .before .before .loop-test .taken in
-    let f = last-field (l .loop .t) _ _ _ (o .last-of .ensures) (l .loop .inv .2 .held .few) (o2 .field-at .ensures) in
-    (l .loop .inv .0, l .loop .inv .1, feed-stop (l .loop .inv .2) g _ _ (k .take-line .kept .1 .1 .0) t (sym (e .ends-block .ensures) ∙ o .before .before .if1 .left) _ noField (o .last-of .ensures) _ (r .line-change .kept .1 .1 .0) _ (rw (c .before .change3 .given .1, f) at (r .line-change .ensures)))
+    let f = last-field (l .loop .t) _ _ _ (o .last-of .ensures) (l .loop .inv .2 .held .few) (o2 .field-at .ensures) in (
+      l .loop .inv .0,
+      l .loop .inv .1,
+      feed-stop (l .loop .inv .2) g _ _ (k .take-line .kept .1 .1 .0) t (sym (e .ends-block .ensures) ∙ o .before .before .if1 .left) _ noField (o .last-of .ensures) _ (r .line-change .kept .1 .1 .0) _ (rw (c .before .change3 .given .1, f) at (r .line-change .ensures)),
+    )
 
 head-after-requires : tie.Need-head-after-requires Inv-loop μ-loop
 head-after-requires c κs = search needs
