@@ -216,9 +216,12 @@ impl Value {
         }
     }
 
-    fn walk(&mut self, file: &[u8]) -> u64 {
+    /// Walks over a file of so many records with one body length, each call being handed the octets that are left, at most a piece; answers how many
+    /// octets were taken.
+    fn walk(&mut self, file: &[u8], count: usize, body: usize) -> u64 {
         let (b, s) = (&mut self.block, &mut self.store);
-        unsafe { speed_walk(usize::MAX, PIECE, b.as_mut_ptr(), b.len(), s.as_mut_ptr(), s.len(), file.as_ptr(), file.len()) }
+        let calls = count * (2 + body.div_ceil(PIECE));
+        unsafe { speed_walk(calls, PIECE, b.as_mut_ptr(), b.len(), s.as_mut_ptr(), s.len(), file.as_ptr(), file.len()) }
     }
 }
 
@@ -477,9 +480,9 @@ fn walks(value: &mut Value, c: &mut C) {
         let file = records(count, body);
         let path = std::env::temp_dir().join(format!("bisquecrow-bench-{name}"));
         std::fs::write(&path, &file).unwrap();
-        assert_eq!(value.walk(&file), file.len() as u64);
+        assert_eq!(value.walk(&file, count, body), file.len() as u64);
         assert_eq!(c.walk(&file), count as u64);
-        let by_value = best(1, || _ = black_box(value.walk(black_box(&file))));
+        let by_value = best(1, || _ = black_box(value.walk(black_box(&file), count, body)));
         let by_c = best(1, || _ = black_box(c.walk(&file)));
         let mut piece = vec![0u8; PIECE];
         let read = best(1, || {
@@ -513,7 +516,7 @@ fn main() {
             ("walk", side) => {
                 let file = records(200, 600);
                 for _ in 0..times {
-                    black_box(if side == "c" { c.walk(&file) } else { value.walk(&file) });
+                    black_box(if side == "c" { c.walk(&file) } else { value.walk(&file, 200, 600) });
                 }
             }
             (call, "rust") => rust_call(&mut map, call, times, text),
