@@ -1,28 +1,32 @@
--- Laws of a table of fields in lent numbers: its fields, a field put, the numbers got back. Assumes nothing.
+-- Laws of a map in lent numbers: its fields, a field put, the numbers got back, of a table and of a head. Assumes nothing.
 use mathlib.Core.Path.{_≡_, refl, sym, ap, _∙_}
 use mathlib.Core.Logic.{_≢_}
 use mathlib.Core.Bool.{Bool, true, false, _&&_}
-use mathlib.Core.List.{List, [], _∷_, _++_}
-use Prim.Native.Nat.{ℕ, zero, suc, _+_, _*_, _-_, _≤_, _<_}
+use mathlib.Core.List.{List, [], _∷_, _++_, append-nil}
+use Prim.Native.Nat.{ℕ, zero, suc, _+_, _*_, _-_, _≤_, _<_, min}
 use native.Mathlib.Omega.{arith}
 use native.Mathlib.Numerals.{add-one}
-use borrow.Author.Tests.{eqb-true, eqb-false, ltb-true, ltb-false, lt-ltb, le-ltb}
+use borrow.Author.Tests.{eqb-true, eqb-false, ltb-true, ltb-false, leb-true, leb-false, lt-ltb, le-ltb, eq-eqb, ne-eqb}
 use lib.Arith.{lt-of-le-ne}
-use lib.Dec.{eqb, ltb}
-use lib.ListN.{length, getD, set, take, drop, replicate, length-set}
-use lib.Seq.{getD-set-same, getD-set-other, ext-getD, length-take-le, paste, paste-suc}
+use lib.Dec.{eqb, leb, ltb}
+use lib.ListN.{length, getD, set, take, drop, replicate, length-append, length-drop, length-replicate, length-set, drop-of-length-le}
+use lib.Seq.{getD-set-same, getD-set-other, ext-getD, length-take-le, take-all, take-at, drop-cons, drop-nil, sets-eq, paste, paste-suc}
 use Rattle.leaves.specs.Choice.{if_then_else_}
 use Rattle.leaves.specs.Paste.{lay}
-use Rattle.leaves.proofs.ChoiceLaws.{if-true, if-false}
+use Rattle.leaves.proofs.ChoiceLaws.{by-if, if-true, if-false, and-left, and-right}
 use Rattle.maps.specs.Places.{inBlock, inStore, noField}
 use Rattle.maps.specs.Good.{Fits, in-block, in-store, Fit, goodField, goodFields}
 use Rattle.maps.specs.declared.Place.{Place}
 use Rattle.maps.specs.declared.Place.the-variants.{Block, Store}
 use Rattle.maps.specs.declared.Field.{Field}
+use Rattle.maps.specs.declared.Status.{Status}
+use Rattle.maps.specs.declared.Status.the-variants.{Absent, At as Stands}
+use Rattle.maps.specs.declared.Head.{Head}
 use Rattle.lookups.specs.declared.Found.{Found}
 use Rattle.lookups.specs.declared.Found.the-variants.{At, Missing}
 use Rattle.lookups.specs.Lookups.{seeking}
-use Rattle.lent.specs.Table.{storeMark, placeOf, fromOf, toOf, placeAt, fieldAt, fieldsFrom, tableOf, placePut, fieldPut}
+use Rattle.lent.specs.Table.{storeMark, placeOf, fromOf, toOf, placeAt, fieldAt, fieldsFrom, tableOf, numbersOf, placePut, fieldPut, liveIn}
+use Rattle.lent.specs.Numbers.{flagOf, phaseNumber, statusKind, statusFrom, statusTo, headNumbers, statusOf, phaseOf, headOf, soundStatus, soundHead, soundMap}
 
 module _ (t : List ℕ) (n i : ℕ) where
   pub from-cons : i < n → fieldsFrom t i (n - i) ≡ fieldAt t i ∷ fieldsFrom t (i + 1) (n - (i + 1))
@@ -164,6 +168,18 @@ fields-take t i k zero h = refl
 fields-take t i zero (suc n) h = absurd (omega (arith, h))
 fields-take t i (suc k) (suc n) h = ap (λ (xs : List Field). fieldAt t i ∷ xs) (fields-take t (i + 1) k n (omega (arith, h)))
 
+drop-behind : (t : List ℕ) (j k i : ℕ) → drop i (fieldsFrom t j k) ≡ fieldsFrom t (j + i) (k - i)
+unfolding fieldsFrom
+drop-behind t j k zero = let e : j ≡ j + 0 = omega arith in let f : k ≡ k - 0 = omega arith in ap (λ (x : ℕ). fieldsFrom t x k) e ∙ ap (fieldsFrom t (j + 0)) f
+drop-behind t j zero (suc i) = let e : 0 - suc i ≡ 0 = omega arith in rw e
+drop-behind t j (suc k) (suc i) =
+    let e : j + 1 + i ≡ j + suc i = omega arith in
+    let f : k - i ≡ suc k - suc i = omega arith in
+    drop-behind t (j + 1) k i ∙ ap (λ (x : ℕ). fieldsFrom t x (k - i)) e ∙ ap (fieldsFrom t (j + suc i)) f
+
+pub drop-fields : (t : List ℕ) (n i : ℕ) → drop i (fieldsFrom t 0 n) ≡ fieldsFrom t i (n - i)
+drop-fields t n i = let e : 0 + i ≡ i = omega arith in drop-behind t 0 n i ∙ ap (λ (x : ℕ). fieldsFrom t x (n - i)) e
+
 module _ (count mark : ℕ) (t : List ℕ) (n i : ℕ) where
   pub good-next : i < n → goodFields count mark (fieldsFrom t i (n - i)) ≡ (goodField count mark (fieldAt t i) && goodFields count mark (fieldsFrom t (i + 1) (n - (i + 1))))
   unfolding goodFields
@@ -207,3 +223,54 @@ module _ (l s : List Field) (long : length s ≡ 256) where
   in-end u n i h a b p =
       let e : i ≡ n = omega (arith, a, b) in
       p ∙ ap (paste l 0 s) e ∙ paste-lay l s n (omega (arith, h, long))
+
+-- the fields that count are those of the lent table, whatever the head says
+module _ (t : List ℕ) (h : Head) where
+  pub live-same : take (h .fields) (liveIn t h .table) ≡ take (h .fields) (tableOf t)
+  live-same = by (leb (h .fields) 256) refl
+    where
+      by : (b : Bool) → leb (h .fields) 256 ≡ b → take (h .fields) (liveIn t h .table) ≡ take (h .fields) (tableOf t)
+      by true u =
+          let k : h .fields ≤ 256 = leb-true _ _ u in
+          let e : min (h .fields) 256 ≡ h .fields = omega (arith, k) in
+          rw e (take-at (fieldsFrom t 0 (h .fields)) (drop (length (fieldsFrom t 0 (h .fields))) (replicate 256 noField)) (h .fields) (fields-length t 0 (h .fields)) ∙ sym (fields-take t 0 256 (h .fields) k))
+      by false u =
+          let k : 256 < h .fields = leb-false _ _ u in
+          let e : min (h .fields) 256 ≡ 256 = omega (arith, k) in
+          rw (e, fields-length t 0 256, append-nil (fieldsFrom t 0 256))
+
+  pub live-length : length (liveIn t h .table) ≡ 256
+  live-length =
+      let xs = fieldsFrom t 0 (min (h .fields) 256) in
+      let a : length xs ≡ min (h .fields) 256 = fields-length t 0 (min (h .fields) 256) in
+      omega (arith, a, length-append xs (drop (length xs) (replicate 256 noField)), length-drop (length xs) (replicate 256 noField), length-replicate 256 noField)
+
+-- one table of numbers for one of fields
+module _ (from to : ℕ) where
+  from-again : fromOf (placeOf from to) ≡ from
+  unfolding placeOf
+  from-again = by-if (λ (p : Place). fromOf p ≡ from) (ltb from storeMark) _ _ (λ _. refl) (λ u. let l : storeMark ≤ from = ltb-false _ _ u in omega (arith, l))
+
+  to-again : toOf (placeOf from to) ≡ to
+  unfolding placeOf
+  to-again = by-if (λ (p : Place). toOf p ≡ to) (ltb from storeMark) _ _ (λ _. refl) (λ _. refl)
+
+numbers-from : (t : List ℕ) (i k : ℕ) → length t ≡ (i + k) * 4 → numbersOf (fieldsFrom t i k) ≡ drop (i * 4) t
+unfolding fieldsFrom numbersOf
+numbers-from t i zero h = let l : length t ≤ i * 4 = omega (arith, h) in sym (drop-of-length-le t l)
+numbers-from t i (suc k) h =
+    let a : i * 4 < length t = omega (arith, h) in
+    let b : i * 4 + 1 < length t = omega (arith, h) in
+    let d : i * 4 + 2 < length t = omega (arith, h) in
+    let e : i * 4 + 2 + 1 < length t = omega (arith, h) in
+    let f : suc (i * 4) ≡ i * 4 + 1 = omega arith in
+    let g : suc (i * 4 + 1) ≡ i * 4 + 2 = omega arith in
+    let j : suc (i * 4 + 2) ≡ i * 4 + 2 + 1 = omega arith in
+    let m : suc (i * 4 + 2 + 1) ≡ (i + 1) * 4 = omega arith in
+    let n : length t ≡ (i + 1 + k) * 4 = omega (arith, h) in
+    rw (from-again (getD t (i * 4) 0) (getD t (i * 4 + 1) 0), to-again (getD t (i * 4) 0) (getD t (i * 4 + 1) 0),
+    from-again (getD t (i * 4 + 2) 0) (getD t (i * 4 + 2 + 1) 0), to-again (getD t (i * 4 + 2) 0) (getD t (i * 4 + 2 + 1) 0),
+    drop-cons t (i * 4) 0 a, f, drop-cons t (i * 4 + 1) 0 b, g, drop-cons t (i * 4 + 2) 0 d, j, drop-cons t (i * 4 + 2 + 1) 0 e, m, numbers-from t (i + 1) k n)
+
+pub numbers-again : (t : List ℕ) → length t ≡ 1024 → numbersOf (tableOf t) ≡ t
+numbers-again t h = numbers-from t 0 256 h
