@@ -6,25 +6,22 @@ use mathlib.Core.List.{List, [], _∷_, _++_, append-nil}
 use Prim.Native.Nat.{ℕ, zero, suc, _+_, _*_, _-_, _≤_, _<_, min}
 use native.Mathlib.Omega.{arith}
 use native.Mathlib.Numerals.{add-one}
-use borrow.Author.Tests.{eqb-true, eqb-false, ltb-true, ltb-false, leb-true, leb-false, lt-ltb, le-ltb, eq-eqb, ne-eqb}
+use borrow.Author.Tests.{eqb-true, eqb-false, ltb-true, ltb-false, leb-true, leb-false, lt-ltb, le-ltb}
 use lib.Arith.{lt-of-le-ne}
 use lib.Dec.{eqb, leb, ltb}
 use lib.ListN.{length, getD, set, take, drop, replicate, length-append, length-drop, length-replicate, length-set, drop-of-length-le}
-use lib.Seq.{getD-set-same, getD-set-other, ext-getD, length-take-le, take-all, take-at, drop-cons, drop-nil, sets, sets-eq, paste, paste-suc}
+use lib.Seq.{getD-set-same, getD-set-other, ext-getD, length-take-le, take-at, drop-cons, sets, sets-eq, paste, paste-suc}
 use Rattle.leaves.specs.Choice.{if_then_else_}
 use Rattle.leaves.specs.Paste.{lay}
 use Rattle.leaves.proofs.ChoiceLaws.{by-if, if-true, if-false, and-left, and-right}
 use Rattle.maps.specs.Places.{inBlock, inStore, noField}
 use Rattle.maps.specs.Good.{Fits, in-block, in-store, Fit, goodField, goodFields}
 use Rattle.maps.specs.declared.Place.{Place}
-use Rattle.maps.specs.declared.Place.the-variants.{Block, Store}
 use Rattle.maps.specs.declared.Field.{Field}
-use Rattle.maps.specs.declared.Status.{Status}
 use Rattle.maps.specs.declared.Status.the-variants.{Absent, At as Stands}
 use Rattle.maps.specs.declared.Phase.{Phase}
 use Rattle.maps.specs.declared.Phase.the-variants.{Reading, Done}
 use Rattle.maps.specs.declared.Head.{Head}
-use Rattle.lookups.specs.declared.Found.{Found}
 use Rattle.lookups.specs.declared.Found.the-variants.{At, Missing}
 use Rattle.lookups.specs.Lookups.{seeking}
 use Rattle.lent.specs.Table.{storeMark, placeOf, fromOf, toOf, placeAt, fieldAt, fieldsFrom, tableOf, numbersOf, placePut, fieldPut, liveIn}

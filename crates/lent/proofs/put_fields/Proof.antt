@@ -4,15 +4,14 @@ use Rattle.maps.specs.Places.{noField}
 use Rattle.maps.specs.Good.{Fit}
 use Rattle.maps.proofs.FitLaws.{all-get}
 use Rattle.lent.specs.Table.{tableOf}
-use Rattle.lent.proofs.LentLaws.{fields-length, field-length, in-step, in-end}
+use Rattle.lent.proofs.LentLaws.{fields-length, in-step, in-end}
 use Rattle.lent.proofs.put_fields.Statement.{statement}
 use Rattle.lent.proofs.put_fields.Tie as tie
 use borrow.Author.Needs.{needs}
 use native.Mathlib.Omega.{arith}
-use mathlib.Core.Path.{_≡_, refl, sym, ap, _∙_}
-use mathlib.Core.Bool.{true, false}
-use Prim.Native.Nat.{ℕ, suc, _+_, _-_, _≤_, _<_}
-use lib.ListN.{length, getD, take, drop}
+use mathlib.Core.Path.{_≡_, ap, _∙_}
+use Prim.Native.Nat.{_-_, _≤_, _<_}
+use lib.ListN.{length, getD, take}
 
 abbrev Inv-loop : tie.InvT-loop
 Inv-loop n t₀ table i₀ t i = (i ≤ n) × (length t ≡ 1024) × (tableOf t ≡ paste (tableOf t₀) 0 table i)
