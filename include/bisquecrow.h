@@ -11,7 +11,7 @@
  *           call, and is 0 where the numbers are damaged; what other pointers take is written with the answer that it belongs to.
  * Threads   The library has no state, so any threads may call it at once. Calls that change nothing may share a map.
  * Alignment The structs have what they need: 8 for a head and a trail, 4 for a table, 1 for lent octets.
- * Stack     STACK: to be measured. A call takes at most this many octets of it.
+ * Stack     A call takes at most BISQUECROW_STACK octets of it.
  *
  * A header is read so:
  *
@@ -51,6 +51,9 @@ extern "C" {
 /* The limit that a header gets where its reader names none, as a walker's do; the largest limit and the largest store room. */
 #define BISQUECROW_DEFAULT_LIMIT 32768
 #define BISQUECROW_LARGEST 65536
+
+/* What a call takes of the stack at most (bindings/c/stack.c measures it). */
+#define BISQUECROW_STACK 65536 /* STACK: to be measured */
 
 /* In a table, offsets of the store begin at this number. */
 #define BISQUECROW_STORE 2147483648u

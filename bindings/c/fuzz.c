@@ -1,8 +1,9 @@
-/* Calls every exported function over random and slightly damaged numbers, lengths, loans, pieces and flags, and checks of each call: it answers one of its
-   own numbers; 1, 2, 3 and 7 exactly where document 01 says so; a call that refuses leaves all; nothing past a loan, a limit, a room or a count changes;
-   a good map stays good; what is handed out lies in its loan.
+/* Calls every exported function over random and slightly damaged numbers, lengths, loans, pieces and flags, and checks of each call: it does not trap; it
+   answers one of its own numbers; 1, 2, 3 and 7 exactly where document 01 says so; a call that they refuse leaves all; nothing past a loan, a limit, a room
+   or a count changes; a good map stays good; what is handed out lies in its loan.
 
        fuzz [CALLS [SEED [table]]]                                                                                                       */
+#include <signal.h>
 #include <stdio.h>
 #include <stdlib.h>
 #include <string.h>
@@ -69,6 +70,15 @@ static void fail(const char *what, uint32_t answer)
     fprintf(stderr, "fuzz: %s answered %u: %s (seed %llu, call %llu)\n", names[called], (unsigned)answer, what, (unsigned long long)seed,
             (unsigned long long)turn);
     exit(1);
+}
+
+/* A trap is told with its call, too. */
+static void trapped(int number)
+{
+    signal(number, SIG_DFL);
+    fprintf(stderr, "fuzz: %s trapped by signal %d (seed %llu, call %llu)\n", names[called], number, (unsigned long long)seed,
+            (unsigned long long)turn);
+    _Exit(1);
 }
 
 /* ---- Lent memory ---- */
@@ -670,6 +680,10 @@ int main(int argc, char **argv)
     uint64_t calls = argc > 1 ? strtoull(argv[1], NULL, 10) : 1000000;
     size_t i;
     seed = argc > 2 ? strtoull(argv[2], NULL, 10) : 1;
+    signal(SIGSEGV, trapped);
+    signal(SIGILL, trapped);
+    signal(SIGFPE, trapped);
+    signal(SIGABRT, trapped);
     state = seed;
     for (i = 0; i < 2; i++) {
         make(&sides[i].trail, TRAIL * sizeof(uint64_t), TRAIL * sizeof(uint64_t));
