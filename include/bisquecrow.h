@@ -226,7 +226,7 @@ uint32_t bisquecrow_append(uint64_t *head, size_t head_length, uint32_t *table, 
                            const uint8_t *value, size_t value_length);
 uint32_t bisquecrow_remove(uint64_t *head, size_t head_length, uint32_t *table, size_t table_length, const uint8_t *block,
                            size_t block_length, const uint8_t *store, size_t store_length, const uint8_t *key, size_t key_length);
-uint32_t bisquecrow_set_status(uint64_t *head, size_t head_length, const uint32_t *table, size_t table_length, const uint8_t *block,
+uint32_t bisquecrow_set_status(uint64_t *head, size_t head_length, uint32_t *table, size_t table_length, const uint8_t *block,
                                size_t block_length, uint8_t *store, size_t store_length, const uint8_t *text, size_t text_length);
 
 uint32_t bisquecrow_write(const uint64_t *head, size_t head_length, const uint32_t *table, size_t table_length, const uint8_t *block,

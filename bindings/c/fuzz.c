@@ -615,7 +615,7 @@ static void check_walk(uint32_t answer)
         fail("another position", answer);
     if (answer == BISQUECROW_BODY && (a.taken == 0 || w[1] != trail_before[1] - a.taken))
         fail("no part of the body", answer);
-    if (answer == BISQUECROW_RECORD && (n[1] != w[0] || n[0] > n[1] || n[2] > CAP || n[2] != w[1] || (n[3] & (n[3] - 1)) != 0 || n[3] > 32768))
+    if (answer == BISQUECROW_RECORD && (n[0] != w[2] || n[1] != w[0] || n[2] > CAP || n[2] != w[1] || (n[3] & (n[3] - 1)) != 0 || n[3] > 32768))
         fail("no record", answer);
     if (answer != BISQUECROW_RECORD && !unwritten())
         fail("no record, and a number was written", answer);
