@@ -179,7 +179,8 @@ struct bisquecrow_loans {
     size_t store_length;
 };
 
-/* Octets that a call is given or hands out. What is handed out lies in a loan, and stands there until a call changes the map. */
+/* Octets that a call is given or hands out. What is handed out lies in a loan, and stands there until a call changes the map; what lies in a map's store
+   is not to be given to an edit of that map, which writes there. */
 struct bisquecrow_part {
     const uint8_t *octets;
     size_t length;

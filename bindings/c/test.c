@@ -495,11 +495,14 @@ static void damaged_walkers(void)
     }
     start(0);
     copy = walker;
-    CHECK(bisquecrow_walk(walker.trail, 3, walker.map.head, 13, walker.map.table, 1024, one.block, LIMIT, one.store, LIMIT, M1.octets, 30, &taken, record) == BISQUECROW_BAD_MAP);
+    CHECK(bisquecrow_walk(walker.trail, 3, walker.map.head, 13, walker.map.table, 1024, one.block, LIMIT, one.store, LIMIT, M1.octets, 30, &taken,
+                          record) == BISQUECROW_BAD_MAP);
     CHECK(taken == 0 && record[0] == 1 && record[3] == 4);
-    CHECK(bisquecrow_walker(walker.trail, 5, walker.map.head, 13, walker.map.table, 1024, LIMIT, 0, one.block, LIMIT, one.store, LIMIT) == BISQUECROW_BAD_MAP);
-    CHECK(bisquecrow_walker(walker.trail, 4, walker.map.head, 12, walker.map.table, 1024, LIMIT, 0, one.block, LIMIT, one.store, LIMIT) == BISQUECROW_BAD_MAP);
-    CHECK(bisquecrow_end(walker.trail, 4, walker.map.head, 13, walker.map.table, 1025, one.block, LIMIT, one.store, LIMIT) == BISQUECROW_BAD_MAP);
+    CHECK(bisquecrow_walker(walker.trail, 0, walker.map.head, 13, walker.map.table, 1024, LIMIT, 0, one.block, LIMIT, one.store, LIMIT) ==
+          BISQUECROW_BAD_MAP);
+    CHECK(bisquecrow_walker(walker.trail, 4, walker.map.head, 12, walker.map.table, 1024, LIMIT, 0, one.block, LIMIT, one.store, LIMIT) ==
+          BISQUECROW_BAD_MAP);
+    CHECK(bisquecrow_end(walker.trail, 4, walker.map.head, 13, walker.map.table, 1023, one.block, LIMIT, one.store, LIMIT) == BISQUECROW_BAD_MAP);
     CHECK(memcmp(&copy, &walker, sizeof walker) == 0);
 
     /* A rest over the cap is 3 as well; the walker can say so, and is stopped. */
