@@ -10,7 +10,7 @@
 
 #include "bisquecrow.h"
 
-enum { GUARD = 64, LOAN = 66000, OUTPUT = 2048, TEXT = 2048, HEAD = 16, TABLE = 1032, TRAIL = 8 };
+enum { GUARD = 64, LOAN = 66000, OUTPUT = 2048, TEXT = 2048, HEAD = 16, TABLE = 1032, TRAIL = 8, STAGES = 21 };
 
 #define CAP UINT64_C(1099511627776)
 #define FURTHEST (UINT64_C(1) << 62)
@@ -254,7 +254,7 @@ static void damage(struct side *s)
         break;
     case 4:
         i = below(4);
-        w[i] = i == 3 ? (one_in(8) ? 64 + (rnd() >> 1) : below(21)) : odd_number();
+        w[i] = i != 3 ? odd_number() : one_in(8) ? STAGES + (one_in(2) ? 0 : rnd() >> 1) : below(STAGES);
         break;
     default: h[12] ^= 1; break;
     }
@@ -449,7 +449,7 @@ static uint32_t check_walker(void)
 {
     uint64_t stage = a.trail[3];
     uint32_t found;
-    if (a.head_length != 13 || a.table_length != 1024 || a.trail_length != 4 || stage >= 64 || !sound_head(a.head))
+    if (a.head_length != 13 || a.table_length != 1024 || a.trail_length != 4 || stage >= STAGES || !sound_head(a.head))
         return 3;
     if (stage >= 7) {
         resting = true;
