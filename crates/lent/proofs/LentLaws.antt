@@ -88,7 +88,7 @@ module _ (t : List ℕ) (at : ℕ) (p : Place) where
   pub put-length : length (placePut t at p) ≡ length t
   put-length = length-set one (at + 1) (toOf p) ∙ length-set t at (fromOf p)
 
-  pub put-same : at + 1 < length t → Fits 65536 65536 p → placeAt (placePut t at p) at ≡ p
+  put-same : at + 1 < length t → Fits 65536 65536 p → placeAt (placePut t at p) at ≡ p
   put-same h w =
       let n : at ≢ at + 1 = λ e. absurd (omega (arith, e)) in
       let l₀ : at < length t = omega (arith, h) in
@@ -107,10 +107,10 @@ module _ (t : List ℕ) (at : ℕ) (p : Place) where
   get-behind : (j : ℕ) → at + 1 < j → getD (placePut t at p) j 0 ≡ getD t j 0
   get-behind j h = get-other j (λ e. absurd (omega (arith, e, h))) (λ e. absurd (omega (arith, e, h)))
 
-  pub put-before : (j : ℕ) → j + 1 < at → placeAt (placePut t at p) j ≡ placeAt t j
+  put-before : (j : ℕ) → j + 1 < at → placeAt (placePut t at p) j ≡ placeAt t j
   put-before j h = rw (get-before j (omega (arith, h)), get-before (j + 1) h)
 
-  pub put-behind : (j : ℕ) → at + 1 < j → placeAt (placePut t at p) j ≡ placeAt t j
+  put-behind : (j : ℕ) → at + 1 < j → placeAt (placePut t at p) j ≡ placeAt t j
   put-behind j h = rw (get-behind j h, get-behind (j + 1) (omega (arith, h)))
 
 module _ (t : List ℕ) (i : ℕ) (f : Field) where
