@@ -88,7 +88,7 @@ module _ (t : List ℕ) (at : ℕ) (p : Place) where
   pub put-length : length (placePut t at p) ≡ length t
   put-length = length-set one (at + 1) (toOf p) ∙ length-set t at (fromOf p)
 
-  pub put-same : at + 1 < length t → Fits 65536 65536 p → placeAt (placePut t at p) at ≡ p
+  put-same : at + 1 < length t → Fits 65536 65536 p → placeAt (placePut t at p) at ≡ p
   put-same h w =
       let n : at ≢ at + 1 = λ e. absurd (omega (arith, e)) in
       let l₀ : at < length t = omega (arith, h) in
@@ -107,10 +107,10 @@ module _ (t : List ℕ) (at : ℕ) (p : Place) where
   get-behind : (j : ℕ) → at + 1 < j → getD (placePut t at p) j 0 ≡ getD t j 0
   get-behind j h = get-other j (λ e. absurd (omega (arith, e, h))) (λ e. absurd (omega (arith, e, h)))
 
-  pub put-before : (j : ℕ) → j + 1 < at → placeAt (placePut t at p) j ≡ placeAt t j
+  put-before : (j : ℕ) → j + 1 < at → placeAt (placePut t at p) j ≡ placeAt t j
   put-before j h = rw (get-before j (omega (arith, h)), get-before (j + 1) h)
 
-  pub put-behind : (j : ℕ) → at + 1 < j → placeAt (placePut t at p) j ≡ placeAt t j
+  put-behind : (j : ℕ) → at + 1 < j → placeAt (placePut t at p) j ≡ placeAt t j
   put-behind j h = rw (get-behind j h, get-behind (j + 1) (omega (arith, h)))
 
 module _ (t : List ℕ) (i : ℕ) (f : Field) where
@@ -126,13 +126,17 @@ module _ (t : List ℕ) (i : ℕ) (f : Field) where
       by : (b : Bool) → ltb j i ≡ b → fieldAt (fieldPut t i f) j ≡ fieldAt t j
       by true u =
           let l : j < i = ltb-true _ _ u in
-          rw (put-before mid (i * 4 + 2) (f .value) (j * 4) (omega (arith, l)) ∙ put-before t (i * 4) (f .key) (j * 4) (omega (arith, l)),
-          put-before mid (i * 4 + 2) (f .value) (j * 4 + 2) (omega (arith, l)) ∙ put-before t (i * 4) (f .key) (j * 4 + 2) (omega (arith, l)))
+          rw (
+            put-before mid (i * 4 + 2) (f .value) (j * 4) (omega (arith, l)) ∙ put-before t (i * 4) (f .key) (j * 4) (omega (arith, l)),
+            put-before mid (i * 4 + 2) (f .value) (j * 4 + 2) (omega (arith, l)) ∙ put-before t (i * 4) (f .key) (j * 4 + 2) (omega (arith, l)),
+          )
       by false u =
           let l : i ≤ j = ltb-false _ _ u in
           let k : i < j = lt-of-le-ne l (λ e. n (sym e)) in
-          rw (put-behind mid (i * 4 + 2) (f .value) (j * 4) (omega (arith, k)) ∙ put-behind t (i * 4) (f .key) (j * 4) (omega (arith, k)),
-          put-behind mid (i * 4 + 2) (f .value) (j * 4 + 2) (omega (arith, k)) ∙ put-behind t (i * 4) (f .key) (j * 4 + 2) (omega (arith, k)))
+          rw (
+            put-behind mid (i * 4 + 2) (f .value) (j * 4) (omega (arith, k)) ∙ put-behind t (i * 4) (f .key) (j * 4) (omega (arith, k)),
+            put-behind mid (i * 4 + 2) (f .value) (j * 4 + 2) (omega (arith, k)) ∙ put-behind t (i * 4) (f .key) (j * 4 + 2) (omega (arith, k)),
+          )
 
   module _ (long : length t ≡ 1024) (few : i < 256) (fit : Fit 65536 65536 f) where
     pub field-same : fieldAt (fieldPut t i f) i ≡ f
@@ -151,6 +155,7 @@ module _ (t : List ℕ) (i : ℕ) (f : Field) where
           where
             l : j < 256
             l = rw (fields-length (fieldPut t i f) 0 256) at h
+
             by : (b : Bool) → eqb j i ≡ b → getD (fieldsFrom (fieldPut t i f) 0 256) j noField ≡ getD (set (fieldsFrom t 0 256) i f) j noField
             by true u =
                 let e : j ≡ i = eqb-true _ _ u in
@@ -267,9 +272,21 @@ numbers-from t i (suc k) h =
     let j : suc (i * 4 + 2) ≡ i * 4 + 2 + 1 = omega arith in
     let m : suc (i * 4 + 2 + 1) ≡ (i + 1) * 4 = omega arith in
     let n : length t ≡ (i + 1 + k) * 4 = omega (arith, h) in
-    rw (from-again (getD t (i * 4) 0) (getD t (i * 4 + 1) 0), to-again (getD t (i * 4) 0) (getD t (i * 4 + 1) 0),
-    from-again (getD t (i * 4 + 2) 0) (getD t (i * 4 + 2 + 1) 0), to-again (getD t (i * 4 + 2) 0) (getD t (i * 4 + 2 + 1) 0),
-    drop-cons t (i * 4) 0 a, f, drop-cons t (i * 4 + 1) 0 b, g, drop-cons t (i * 4 + 2) 0 d, j, drop-cons t (i * 4 + 2 + 1) 0 e, m, numbers-from t (i + 1) k n)
+    rw (
+      from-again (getD t (i * 4) 0) (getD t (i * 4 + 1) 0),
+      to-again (getD t (i * 4) 0) (getD t (i * 4 + 1) 0),
+      from-again (getD t (i * 4 + 2) 0) (getD t (i * 4 + 2 + 1) 0),
+      to-again (getD t (i * 4 + 2) 0) (getD t (i * 4 + 2 + 1) 0),
+      drop-cons t (i * 4) 0 a,
+      f,
+      drop-cons t (i * 4 + 1) 0 b,
+      g,
+      drop-cons t (i * 4 + 2) 0 d,
+      j,
+      drop-cons t (i * 4 + 2 + 1) 0 e,
+      m,
+      numbers-from t (i + 1) k n,
+    )
 
 pub numbers-again : (t : List ℕ) → length t ≡ 1024 → numbersOf (tableOf t) ≡ t
 numbers-again t h = numbers-from t 0 256 h

@@ -21,7 +21,7 @@ add-put-place : tie.Need-add-put-place
 add-put-place c = search needs
 
 put-place-requires-2 : tie.Need-put-place-requires-2
-put-place-requires-2 c κs = (omega (arith, c .before .before .before .put-place .kept .0), c .before .before .before .before .before .before .pre .2 .value)
+put-place-requires-2 c κs = (omega (arith, c .before .before .before .put-place .kept .0), search needs)
 
 same-length : tie.Need-same-length
 same-length c = search needs
