@@ -1,15 +1,12 @@
 -- `lent::tables::put_field` meets its contract. Assumes nothing.
 use mathlib.Core.List.{List}
-use Prim.Native.Nat.{_*_}
+use Prim.Native.Nat.{_*_, ℕ, _+_}
 use Rattle.lent.specs.Table.{placePut}
 use borrow.Author.Needs.{needs}
 use Rattle.lent.proofs.tables.put_field.Statement.{statement}
 use Rattle.lent.proofs.tables.put_field.Tie as tie
 use native.Mathlib.Omega.{arith}
-use mathlib.Core.Path.{_≡_, refl, sym, ap, _∙_}
-use mathlib.Core.Bool.{true, false}
-use Prim.Native.Nat.{ℕ, suc, _+_, _-_, _≤_, _<_}
-use lib.ListN.{length, getD, take, drop}
+use mathlib.Core.Path.{ap, _∙_}
 
 mul-put-place : tie.Need-mul-put-place
 mul-put-place c = search needs
