@@ -7,10 +7,9 @@ use Prim.Native.Nat.{ℕ, _+_, _<_}
 use lib.Dec.{eqb}
 use lib.ListN.{length, set, getD}
 use Rattle.leaves.specs.Choice.{if_then_else_}
-use Rattle.leaves.specs.Paste.{lay}
 use Rattle.leaves.specs.Refusals.{number, refusal}
 use Rattle.leaves.specs.Numbers.{done, missing, yes, other, inTheBlock, inTheStore}
-use Rattle.maps.specs.Good.{live, checkedDone, unless}
+use Rattle.maps.specs.Good.{checkedDone, unless}
 use Rattle.maps.specs.Maps.{Given}
 use Rattle.maps.specs.Places.{at, inBlock, inStore, noField}
 use Rattle.maps.specs.declared.HeaderMap.{HeaderMap}
@@ -22,8 +21,6 @@ use Rattle.reader.specs.Calls.{beginning, feeding, finishing, clearing}
 use Rattle.reader.specs.declared.Fed.{Fed}
 use Rattle.reader.specs.declared.Made.{Made}
 use Rattle.edits.specs.Edits.{setting, appending, removing, statusing}
-use Rattle.edits.specs.declared.Edit.{Edit}
-use Rattle.edits.specs.declared.Edit.the-variants.{Done, Refused as Unedited}
 use Rattle.edits.specs.declared.Edited.{Edited}
 use Rattle.lookups.specs.Lookups.{finding, valuePlace, keyPlace, statusPlace}
 use Rattle.lookups.specs.declared.Found.{Found}
@@ -47,10 +44,11 @@ use Rattle.walker.specs.Walk.{starting, walking, ending}
 use Rattle.walker.specs.declared.Step.{Step}
 use Rattle.walker.specs.declared.Step.the-variants.{More, Record, Body, End, Refused as Unwalked}
 use Rattle.walker.specs.declared.Walked.{Walked}
+use Rattle.walker.specs.declared.Walker.{Walker}
 use Rattle.maps.specs.Heads.{headOf as headIn, unmadeHead}
-use Rattle.lent.specs.Table.{mapIn, tableOf, numbersOf}
+use Rattle.lent.specs.Table.{mapIn, numbersOf}
 use Rattle.lent.specs.Numbers.{headNumbers, soundMap, longMap, mapOf}
-use Rattle.lent_walker.specs.Trail.{trailNumbers, soundTrail, walkerOf}
+use Rattle.trails.specs.Trail.{staged, stageOf, soundTrail}
 use Rattle.maps.specs.Answers.{told as checkedOf}
 use Rattle.reader.specs.Answers.{told as answerOf}
 use Rattle.edits.specs.Answers.{told as editOf}
@@ -160,11 +158,6 @@ removeGives n t b s k = if soundMap n t then outOf editAnswer noNumbers editMap 
 unfoldable pub statusGives : List ℕ → List ℕ → List ℕ → List ℕ → List ℕ → Out
 statusGives n t b s x = if soundMap n t then outOf editAnswer noNumbers editMap (statusing (mapOf n t) b s x) else damaged [] n t b s
 
--- the numbers of the map that an edit made; a refused one leaves them
-abbrev pub Kept : Edit → HeaderMap → List ℕ → List ℕ → List ℕ → List ℕ → Type 0
-Kept Done m n t n′ t′ = (n′ ≡ headNumbers (headIn m)) × (tableOf t′ ≡ lay (tableOf t) (live m)) × (length t′ ≡ 1024)
-Kept (Unedited e) m n t n′ t′ = (n′ ≡ n) × (t′ ≡ t)
-
 -- a walker: beside its map's numbers a trail is lent
 pub record Went : Type 0 where
   pub out : Out
@@ -173,6 +166,13 @@ pub record Went : Type 0 where
 pub record Goes (o : Went) (r : ℕ) (z w n t b s : List ℕ) : Type 0 where
   pub out : Gave (o .out) r z n t b s
   pub trail : w ≡ o .trail
+
+abbrev pub trailIn : Walker → List ℕ
+trailIn w = w .position ∷ w .rest ∷ w .start ∷ staged (w .stage) ∷ []
+
+-- the walker that a trail and a map's numbers are
+abbrev pub walkerOf : List ℕ → List ℕ → List ℕ → Walker
+walkerOf w n t = record { map = mapOf n t; position = getD w 0 0; rest = getD w 1 0; stage = stageOf (getD w 3 0); start = getD w 2 0 }
 
 abbrev pub walkedAnswer : Walked → ℕ
 walkedAnswer r = stepOf (r .step)
@@ -192,7 +192,7 @@ abbrev pub walkedNumbers : List ℕ → Walked → List ℕ
 walkedNumbers r w = w .taken ∷ recordNumbers (w .step) r
 
 abbrev pub wentOf : (Walked → List ℕ) → Given Walked → Went
-wentOf numbers g = record { out = outOf walkedAnswer numbers walkedMap g; trail = trailNumbers (g .result .walker) }
+wentOf numbers g = record { out = outOf walkedAnswer numbers walkedMap g; trail = trailIn (g .result .walker) }
 
 abbrev pub lost : List ℕ → List ℕ → List ℕ → List ℕ → List ℕ → List ℕ → Went
 lost numbers w n t b s = record { out = damaged numbers n t b s; trail = w }
@@ -217,7 +217,7 @@ startedOut w n t g =
           block = g .block;
           store = g .store;
         };
-      trail = started (g .result .step) w (trailNumbers (g .result .walker));
+      trail = started (g .result .step) w (trailIn (g .result .walker));
     }
 
 unfoldable pub walkerGives : List ℕ → List ℕ → List ℕ → ℕ → ℕ → List ℕ → List ℕ → Went
