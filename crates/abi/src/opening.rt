@@ -11,9 +11,7 @@ pub fn open(head: &[u64], table: &[u32], block: &[u8], store: &[u8]) -> Checked
 {
     if lent::is_sound(head, table) {
         let h = heads::head_at(head);
-        let phase = h.phase;
-        let ready = maps::is_done(phase);
-        return lent::check(h, table, ready, block.len(), store.len());
+        return lent::check_done(h, table, block, store);
     }
     Checked::Refused(Refusal::BadMap)
 }

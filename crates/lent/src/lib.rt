@@ -15,7 +15,7 @@ ghost use Prim.Native.Nat.{_≤_, min};
 ghost use lib.ListN.{length, take, replicate};
 ghost use Rattle.leaves.specs.Paste.{lay};
 ghost use Rattle.maps.specs.Places.{noField};
-ghost use Rattle.maps.specs.Good.{FitAll, good, checked};
+ghost use Rattle.maps.specs.Good.{FitAll, good, checked, checkedDone};
 ghost use Rattle.lent.specs.Table.{fieldsFrom, tableOf, mapIn, liveIn};
 ghost use Rattle.lent.specs.Numbers.{headOf, soundMap, longMap};
 
@@ -94,6 +94,16 @@ fn live_table(t: &[u32], n: usize) -> [Field; 256]
         i += 1;
     }
     table
+}
+
+// The first checks of a call that wants a map that is Done.
+pub fn check_done(h: Head, t: &[u32], block: &[u8], store: &[u8]) -> Checked
+    requires { ⌜ length (now t) ≡ 1024 ⌝ }
+    ensures { λ r. ⌜ r ≡ checkedDone (mapIn (now (t .entry)) h) (now (block .entry)) (now (store .entry)) ⌝ }
+{
+    let phase = h.phase;
+    let ready = maps::is_done(phase);
+    check(h, t, ready, block.len(), store.len())
 }
 
 // The map by value, with the fields that count alone.

@@ -76,22 +76,12 @@ fn give_map<'a>(out: &mut [u8], h: Head, t: &[u32], block: &'a [u8], store: &'a 
     Wrote::Count(k)
 }
 
-// The first checks of a call that wants a map that is Done.
-fn check_done(h: Head, t: &[u32], block: &[u8], store: &[u8]) -> Checked
-    requires { ⌜ length (now t) ≡ 1024 ⌝ }
-    ensures { λ r. ⌜ r ≡ checkedDone (mapIn (now (t .entry)) h) (now (block .entry)) (now (store .entry)) ⌝ }
-{
-    let phase = h.phase;
-    let ready = maps::is_done(phase);
-    lent::check(h, t, ready, block.len(), store.len())
-}
-
 // Status, fields and the blank line, whatever the map was read from.
 pub fn rebuild<'a>(h: Head, t: &[u32], block: &'a [u8], store: &'a [u8], out: &mut [u8]) -> Wrote
     requires { ⌜ length (now t) ≡ 1024 ⌝ }
     ensures { λ r. ⌜ Is (rebuilding (mapIn (now (t .entry)) h) (now (block .entry)) (now (store .entry)) (now (out .entry))) r (now (out .exit)) ⌝ }
 {
-    let s = check_done(h, t, block, store);
+    let s = lent::check_done(h, t, block, store);
     match s {
         Checked::Fine => give_map(out, h, t, block, store),
         Checked::Refused(x) => Wrote::Refused(x),
@@ -103,7 +93,7 @@ pub fn write<'a>(h: Head, t: &[u32], block: &'a [u8], store: &'a [u8], out: &mut
     requires { ⌜ length (now t) ≡ 1024 ⌝ }
     ensures { λ r. ⌜ Is (writing (mapIn (now (t .entry)) h) (now (block .entry)) (now (store .entry)) (now (out .entry))) r (now (out .exit)) ⌝ }
 {
-    let s = check_done(h, t, block, store);
+    let s = lent::check_done(h, t, block, store);
     match s {
         Checked::Fine => {
             let count = h.count;

@@ -1,7 +1,7 @@
--- `lent_writes::check_done` meets its contract. Assumes nothing.
+-- `lent::check_done` meets its contract. Assumes nothing.
 use borrow.Author.Needs.{needs}
-use Rattle.lent_writes.proofs.check_done.Statement.{statement}
-use Rattle.lent_writes.proofs.check_done.Tie as tie
+use Rattle.lent.proofs.check_done.Statement.{statement}
+use Rattle.lent.proofs.check_done.Tie as tie
 use mathlib.Core.Path.{_∙_}
 use Prim.Native.Nat.{_-_}
 
