@@ -8,7 +8,6 @@ ghost use mathlib.Core.Path.{_≡_};
 ghost use mathlib.Core.List.{map};
 ghost use Prim.Native.Nat.{_+_, _≤_};
 ghost use lib.ListN.{length};
-ghost use Rattle.maps.specs.Good.{checkedDone};
 ghost use Rattle.maps.specs.Said.{pairAt, saying};
 ghost use Rattle.writes.specs.Written.{Put, pairLines, rebuilt, giving, rebuilding, writing, Is};
 ghost use Rattle.lent.specs.Table.{fieldsFrom, mapIn};
