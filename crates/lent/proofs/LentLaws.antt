@@ -1,0 +1,172 @@
+-- Laws of a table of fields in lent numbers: its fields, a field put, the numbers got back. Assumes nothing.
+use mathlib.Core.Path.{_≡_, refl, sym, ap, _∙_}
+use mathlib.Core.Logic.{_≢_}
+use mathlib.Core.Bool.{Bool, true, false, _&&_}
+use mathlib.Core.List.{List, [], _∷_}
+use Prim.Native.Nat.{ℕ, zero, suc, _+_, _*_, _-_, _≤_, _<_}
+use native.Mathlib.Omega.{arith}
+use borrow.Author.Tests.{eqb-true, eqb-false, ltb-true, ltb-false, lt-ltb, le-ltb}
+use lib.Arith.{lt-of-le-ne}
+use lib.Dec.{eqb, ltb}
+use lib.ListN.{length, getD, set, take, drop, length-set}
+use lib.Seq.{getD-set-same, getD-set-other, ext-getD}
+use Rattle.leaves.specs.Choice.{if_then_else_}
+use Rattle.leaves.proofs.ChoiceLaws.{if-true, if-false}
+use Rattle.maps.specs.Places.{inBlock, inStore, noField}
+use Rattle.maps.specs.Good.{Fits, in-block, in-store, Fit, goodField, goodFields}
+use Rattle.maps.specs.declared.Place.{Place}
+use Rattle.maps.specs.declared.Place.the-variants.{Block, Store}
+use Rattle.maps.specs.declared.Field.{Field}
+use Rattle.lookups.specs.declared.Found.{Found}
+use Rattle.lookups.specs.declared.Found.the-variants.{At, Missing}
+use Rattle.lookups.specs.Lookups.{seeking}
+use Rattle.lent.specs.Table.{storeMark, placeOf, fromOf, toOf, placeAt, fieldAt, fieldsFrom, placePut, fieldPut}
+
+module _ (t : List ℕ) (n i : ℕ) where
+  pub from-cons : i < n → fieldsFrom t i (n - i) ≡ fieldAt t i ∷ fieldsFrom t (i + 1) (n - (i + 1))
+  unfolding fieldsFrom
+  from-cons h = let k : n - i ≡ suc (n - (i + 1)) = omega (arith, h) in rw k
+
+  pub from-end : n ≤ i → fieldsFrom t i (n - i) ≡ []
+  unfolding fieldsFrom
+  from-end h = let k : n - i ≡ 0 = omega (arith, h) in rw k
+
+  -- a search among them
+  module _ (p : Field → Bool) where
+    pub seek-hit : i < n → p (fieldAt t i) ≡ true → seeking p i (fieldsFrom t i (n - i)) ≡ At i
+    unfolding seeking if_then_else_
+    seek-hit h e = rw (from-cons h, e)
+
+    pub seek-more : i < n → p (fieldAt t i) ≡ false → seeking p i (fieldsFrom t i (n - i)) ≡ seeking p (i + 1) (fieldsFrom t (i + 1) (n - (i + 1)))
+    unfolding seeking if_then_else_
+    seek-more h e = rw (from-cons h, e)
+
+    pub seek-end : n ≤ i → seeking p i (fieldsFrom t i (n - i)) ≡ Missing
+    unfolding seeking
+    seek-end h = rw (from-end h)
+
+-- how many, and the one at a number
+pub fields-length : (t : List ℕ) (i k : ℕ) → length (fieldsFrom t i k) ≡ k
+unfolding fieldsFrom
+fields-length t i zero = refl
+fields-length t i (suc k) = ap suc (fields-length t (i + 1) k)
+
+pub fields-get : (t : List ℕ) (i k j : ℕ) → j < k → getD (fieldsFrom t i k) j noField ≡ fieldAt t (i + j)
+unfolding fieldsFrom
+fields-get t i zero j h = absurd (omega (arith, h))
+fields-get t i (suc k) zero h = let e : i ≡ i + 0 = omega arith in ap (fieldAt t) e
+fields-get t i (suc k) (suc j) h =
+    let e : i + 1 + j ≡ i + suc j = omega arith in
+    fields-get t (i + 1) k j (omega (arith, h)) ∙ ap (fieldAt t) e
+
+pub fields-at : (t : List ℕ) (k j : ℕ) → j < k → getD (fieldsFrom t 0 k) j noField ≡ fieldAt t j
+fields-at t k j h = let e : 0 + j ≡ j = omega arith in fields-get t 0 k j h ∙ ap (fieldAt t) e
+
+-- a place is told by its two numbers
+told : {p : Place} → Fits 65536 65536 p → placeOf (fromOf p) (toOf p) ≡ p
+unfolding placeOf
+told (in-block x y l h) = let k : x < storeMark = omega (arith, l, h) in if-true _ _ (lt-ltb _ _ k)
+told (in-store x y l h) =
+    let k : storeMark ≤ storeMark + x = omega arith in
+    let e : storeMark + x - storeMark ≡ x = omega arith in
+    if-false _ _ (le-ltb _ _ k) ∙ ap (λ (a : ℕ). inStore a y) e
+
+-- and its first number is no more than 32 bits hold
+pub from-small : {p : Place} → Fits 65536 65536 p → fromOf p ≤ storeMark + 65536
+from-small (in-block x y l h) = omega (arith, l, h)
+from-small (in-store x y l h) = omega (arith, l, h)
+
+module _ (t : List ℕ) (at : ℕ) (p : Place) where
+  abbrev one : List ℕ
+  one = set t at (fromOf p)
+
+  pub put-length : length (placePut t at p) ≡ length t
+  put-length = length-set one (at + 1) (toOf p) ∙ length-set t at (fromOf p)
+
+  pub put-same : at + 1 < length t → Fits 65536 65536 p → placeAt (placePut t at p) at ≡ p
+  put-same h w =
+      let n : at ≢ at + 1 = λ e. absurd (omega (arith, e)) in
+      let l₀ : at < length t = omega (arith, h) in
+      let l₁ : at + 1 < length one = rw (length-set t at (fromOf p)) h in
+      let a : getD (placePut t at p) at 0 ≡ fromOf p = getD-set-other one (at + 1) at (toOf p) 0 n ∙ getD-set-same t at (fromOf p) 0 l₀ in
+      let b : getD (placePut t at p) (at + 1) 0 ≡ toOf p = getD-set-same one (at + 1) (toOf p) 0 l₁ in
+      rw (a, b) (told w)
+
+  -- a number that the place has not
+  get-other : (j : ℕ) → j ≢ at → j ≢ at + 1 → getD (placePut t at p) j 0 ≡ getD t j 0
+  get-other j a b = getD-set-other one (at + 1) j (toOf p) 0 b ∙ getD-set-other t at j (fromOf p) 0 a
+
+  get-before : (j : ℕ) → j < at → getD (placePut t at p) j 0 ≡ getD t j 0
+  get-before j h = get-other j (λ e. absurd (omega (arith, e, h))) (λ e. absurd (omega (arith, e, h)))
+
+  get-behind : (j : ℕ) → at + 1 < j → getD (placePut t at p) j 0 ≡ getD t j 0
+  get-behind j h = get-other j (λ e. absurd (omega (arith, e, h))) (λ e. absurd (omega (arith, e, h)))
+
+  pub put-before : (j : ℕ) → j + 1 < at → placeAt (placePut t at p) j ≡ placeAt t j
+  put-before j h = rw (get-before j (omega (arith, h)), get-before (j + 1) h)
+
+  pub put-behind : (j : ℕ) → at + 1 < j → placeAt (placePut t at p) j ≡ placeAt t j
+  put-behind j h = rw (get-behind j h, get-behind (j + 1) (omega (arith, h)))
+
+module _ (t : List ℕ) (i : ℕ) (f : Field) where
+  abbrev mid : List ℕ
+  mid = placePut t (i * 4) (f .key)
+
+  pub field-length : length (fieldPut t i f) ≡ length t
+  field-length = put-length mid (i * 4 + 2) (f .value) ∙ put-length t (i * 4) (f .key)
+
+  pub field-other : (j : ℕ) → j ≢ i → fieldAt (fieldPut t i f) j ≡ fieldAt t j
+  field-other j n = by (ltb j i) refl
+    where
+      by : (b : Bool) → ltb j i ≡ b → fieldAt (fieldPut t i f) j ≡ fieldAt t j
+      by true u =
+          let l : j < i = ltb-true _ _ u in
+          rw (put-before mid (i * 4 + 2) (f .value) (j * 4) (omega (arith, l)) ∙ put-before t (i * 4) (f .key) (j * 4) (omega (arith, l)),
+          put-before mid (i * 4 + 2) (f .value) (j * 4 + 2) (omega (arith, l)) ∙ put-before t (i * 4) (f .key) (j * 4 + 2) (omega (arith, l)))
+      by false u =
+          let l : i ≤ j = ltb-false _ _ u in
+          let k : i < j = lt-of-le-ne l (λ e. n (sym e)) in
+          rw (put-behind mid (i * 4 + 2) (f .value) (j * 4) (omega (arith, k)) ∙ put-behind t (i * 4) (f .key) (j * 4) (omega (arith, k)),
+          put-behind mid (i * 4 + 2) (f .value) (j * 4 + 2) (omega (arith, k)) ∙ put-behind t (i * 4) (f .key) (j * 4 + 2) (omega (arith, k)))
+
+  module _ (long : length t ≡ 1024) (few : i < 256) (fit : Fit 65536 65536 f) where
+    pub field-same : fieldAt (fieldPut t i f) i ≡ f
+    field-same =
+        let l : i * 4 + 2 + 1 < length mid = rw (put-length t (i * 4) (f .key)) (omega (arith, few, long)) in
+        let a : placeAt (fieldPut t i f) (i * 4) ≡ f .key = put-before mid (i * 4 + 2) (f .value) (i * 4) (omega arith) ∙ put-same t (i * 4) (f .key) (omega (arith, few, long)) (fit .key) in
+        let b : placeAt (fieldPut t i f) (i * 4 + 2) ≡ f .value = put-same mid (i * 4 + 2) (f .value) l (fit .value) in
+        rw (a, b)
+
+    -- a field that is put is set among the fields
+    pub fields-set : fieldsFrom (fieldPut t i f) 0 256 ≡ set (fieldsFrom t 0 256) i f
+    fields-set = ext-getD noField (fieldsFrom (fieldPut t i f) 0 256) (set (fieldsFrom t 0 256) i f) (fields-length (fieldPut t i f) 0 256 ∙ sym (length-set (fieldsFrom t 0 256) i f ∙ fields-length t 0 256)) each
+      where
+        each : (j : ℕ) → j < length (fieldsFrom (fieldPut t i f) 0 256) → getD (fieldsFrom (fieldPut t i f) 0 256) j noField ≡ getD (set (fieldsFrom t 0 256) i f) j noField
+        each j h = by (eqb j i) refl
+          where
+            l : j < 256
+            l = rw (fields-length (fieldPut t i f) 0 256) at h
+            by : (b : Bool) → eqb j i ≡ b → getD (fieldsFrom (fieldPut t i f) 0 256) j noField ≡ getD (set (fieldsFrom t 0 256) i f) j noField
+            by true u =
+                let e : j ≡ i = eqb-true _ _ u in
+                let w : i < length (fieldsFrom t 0 256) = rw (fields-length t 0 256) few in
+                rw e (fields-at (fieldPut t i f) 256 i few ∙ field-same ∙ sym (getD-set-same (fieldsFrom t 0 256) i f noField w))
+            by false u =
+                let n : j ≢ i = eqb-false _ _ u in
+                fields-at (fieldPut t i f) 256 j l ∙ field-other j n ∙ sym (fields-at t 256 j l) ∙ sym (getD-set-other (fieldsFrom t 0 256) i j f noField n)
+
+-- the first fields of a table, those behind a number, and whether they are good
+pub fields-take : (t : List ℕ) (i k n : ℕ) → n ≤ k → take n (fieldsFrom t i k) ≡ fieldsFrom t i n
+unfolding fieldsFrom
+fields-take t i k zero h = refl
+fields-take t i zero (suc n) h = absurd (omega (arith, h))
+fields-take t i (suc k) (suc n) h = ap (λ (xs : List Field). fieldAt t i ∷ xs) (fields-take t (i + 1) k n (omega (arith, h)))
+
+module _ (count mark : ℕ) (t : List ℕ) (n i : ℕ) where
+  pub good-next : i < n → goodFields count mark (fieldsFrom t i (n - i)) ≡ (goodField count mark (fieldAt t i) && goodFields count mark (fieldsFrom t (i + 1) (n - (i + 1))))
+  unfolding goodFields
+  good-next h = rw (from-cons t n i h)
+
+  pub good-end : n ≤ i → goodFields count mark (fieldsFrom t i (n - i)) ≡ true
+  unfolding goodFields
+  good-end h = rw (from-end t n i h)
