@@ -2,15 +2,17 @@
 use mathlib.Core.Path.{_≡_, refl, sym, ap, _∙_}
 use mathlib.Core.Logic.{_≢_}
 use mathlib.Core.Bool.{Bool, true, false, _&&_}
-use mathlib.Core.List.{List, [], _∷_}
+use mathlib.Core.List.{List, [], _∷_, _++_}
 use Prim.Native.Nat.{ℕ, zero, suc, _+_, _*_, _-_, _≤_, _<_}
 use native.Mathlib.Omega.{arith}
+use native.Mathlib.Numerals.{add-one}
 use borrow.Author.Tests.{eqb-true, eqb-false, ltb-true, ltb-false, lt-ltb, le-ltb}
 use lib.Arith.{lt-of-le-ne}
 use lib.Dec.{eqb, ltb}
-use lib.ListN.{length, getD, set, take, drop, length-set}
-use lib.Seq.{getD-set-same, getD-set-other, ext-getD}
+use lib.ListN.{length, getD, set, take, drop, replicate, length-set}
+use lib.Seq.{getD-set-same, getD-set-other, ext-getD, length-take-le, paste, paste-suc}
 use Rattle.leaves.specs.Choice.{if_then_else_}
+use Rattle.leaves.specs.Paste.{lay}
 use Rattle.leaves.proofs.ChoiceLaws.{if-true, if-false}
 use Rattle.maps.specs.Places.{inBlock, inStore, noField}
 use Rattle.maps.specs.Good.{Fits, in-block, in-store, Fit, goodField, goodFields}
@@ -20,7 +22,7 @@ use Rattle.maps.specs.declared.Field.{Field}
 use Rattle.lookups.specs.declared.Found.{Found}
 use Rattle.lookups.specs.declared.Found.the-variants.{At, Missing}
 use Rattle.lookups.specs.Lookups.{seeking}
-use Rattle.lent.specs.Table.{storeMark, placeOf, fromOf, toOf, placeAt, fieldAt, fieldsFrom, placePut, fieldPut}
+use Rattle.lent.specs.Table.{storeMark, placeOf, fromOf, toOf, placeAt, fieldAt, fieldsFrom, tableOf, placePut, fieldPut}
 
 module _ (t : List ℕ) (n i : ℕ) where
   pub from-cons : i < n → fieldsFrom t i (n - i) ≡ fieldAt t i ∷ fieldsFrom t (i + 1) (n - (i + 1))
@@ -170,3 +172,38 @@ module _ (count mark : ℕ) (t : List ℕ) (n i : ℕ) where
   pub good-end : n ≤ i → goodFields count mark (fieldsFrom t i (n - i)) ≡ true
   unfolding goodFields
   good-end h = rw (from-end t n i h)
+
+-- fields copied over the start of others
+pub paste-lay : (l s : List Field) (n : ℕ) → n ≤ length s → paste l 0 s n ≡ lay l (take n s)
+paste-lay l s n h = let e : 0 + n ≡ length (take n s) = omega (arith, length-take-le n s h) in ap (λ (k : ℕ). take n s ++ drop k l) e
+
+-- a loop that copies them out of lent numbers
+module _ (t : List ℕ) (l : List Field) (long : length l ≡ 256) where
+  pub out-step : (u : List Field) (i : ℕ) (f : Field) → i < 256 → f ≡ fieldAt t i → u ≡ paste l 0 (tableOf t) i → set u i f ≡ paste l 0 (tableOf t) (i + 1)
+  out-step u i f h e p =
+      let a : 0 + i < length l = omega (arith, h, long) in
+      let b : i < length (tableOf t) = rw (fields-length t 0 256) h in
+      let j : i ≡ 0 + i = omega arith in
+      let g : f ≡ getD (tableOf t) i noField = e ∙ sym (fields-at t 256 i h) in
+      rw (p, g, add-one i) (ap (λ (k : ℕ). set (paste l 0 (tableOf t) i) k (getD (tableOf t) i noField)) j ∙ paste-suc l 0 (tableOf t) i noField a b)
+
+  pub out-end : (u : List Field) (n i : ℕ) → n ≤ 256 → i ≤ n → n ≤ i → u ≡ paste l 0 (tableOf t) i → u ≡ lay l (fieldsFrom t 0 n)
+  out-end u n i h a b p =
+      let e : i ≡ n = omega (arith, a, b) in
+      let w : n ≤ length (tableOf t) = rw (fields-length t 0 256) h in
+      p ∙ ap (paste l 0 (tableOf t)) e ∙ paste-lay l (tableOf t) n w ∙ ap (lay l) (fields-take t 0 256 n h)
+
+-- and one that copies them in
+module _ (l s : List Field) (long : length s ≡ 256) where
+  pub in-step : (t : List ℕ) (i : ℕ) → i < 256 → length t ≡ 1024 → Fit 65536 65536 (getD s i noField) → length l ≡ 256
+      → tableOf t ≡ paste l 0 s i → tableOf (fieldPut t i (getD s i noField)) ≡ paste l 0 s (i + 1)
+  in-step t i h k w m p =
+      let a : 0 + i < length l = omega (arith, h, m) in
+      let b : i < length s = omega (arith, h, long) in
+      let j : i ≡ 0 + i = omega arith in
+      fields-set t i (getD s i noField) k h w ∙ rw (p, add-one i) (ap (λ (k : ℕ). set (paste l 0 s i) k (getD s i noField)) j ∙ paste-suc l 0 s i noField a b)
+
+  pub in-end : (u : List Field) (n i : ℕ) → n ≤ 256 → i ≤ n → n ≤ i → u ≡ paste l 0 s i → u ≡ lay l (take n s)
+  in-end u n i h a b p =
+      let e : i ≡ n = omega (arith, a, b) in
+      p ∙ ap (paste l 0 s) e ∙ paste-lay l s n (omega (arith, h, long))

@@ -3,18 +3,21 @@ pub mod heads;
 pub mod tables;
 
 use leaves::refusals::Refusal;
+use maps::BlockOffset;
 use maps::Checked;
 use maps::Field;
 use maps::Head;
 use maps::HeaderMap;
+use maps::Place;
 ghost use mathlib.Core.Path.{_≡_};
 ghost use mathlib.Core.Bool.{true};
-ghost use Prim.Native.Nat.{_≤_};
-ghost use lib.ListN.{length, take};
+ghost use Prim.Native.Nat.{_≤_, min};
+ghost use lib.ListN.{length, take, replicate};
 ghost use Rattle.leaves.specs.Paste.{lay};
+ghost use Rattle.maps.specs.Places.{noField};
 ghost use Rattle.maps.specs.Good.{FitAll, Small, live, good, checked};
 ghost use Rattle.maps.specs.Heads.{headOf as headIn};
-ghost use Rattle.lent.specs.Table.{tableOf, mapIn, liveIn};
+ghost use Rattle.lent.specs.Table.{fieldsFrom, tableOf, mapIn, liveIn};
 ghost use Rattle.lent.specs.Numbers.{headNumbers, headOf, soundMap, longMap};
 
 // How many numbers a table is.
@@ -65,23 +68,42 @@ pub fn check(h: Head, t: &[u32], ready: bool, block: usize, store: usize) -> Che
     Checked::Refused(Refusal::BadMap)
 }
 
-// The map by value, with the fields that count alone.
-pub fn live_map(h: Head, t: &[u32]) -> HeaderMap
-    requires { ⌜ length (now t) ≡ 1024 ⌝ }
-    ensures { λ r. ⌜ r ≡ liveIn (now (t .entry)) h ⌝ }
+// How many fields a map holds of n.
+fn few(n: usize) -> usize
+    ensures { λ r. ⌜ r ≡ min n 256 ⌝ }
 {
-    let m = HeaderMap::new();
-    let mut table = m.table;
-    let mut n = h.fields;
-    if maps::FIELDS < n {
-        n = maps::FIELDS;
+    if n <= maps::FIELDS {
+        return n;
     }
+    maps::FIELDS
+}
+
+// A table by value: the first n fields, and behind them what was never used.
+fn live_table(t: &[u32], n: usize) -> [Field; 256]
+    requires { ⌜ (n ≤ 256) × (length (now t) ≡ 1024) ⌝ }
+    ensures { λ r. ⌜ r ≡ lay (replicate 256 noField) (fieldsFrom (now (t .entry)) 0 n) ⌝ }
+{
+    let none = Field {
+        key: Place::Block(BlockOffset(0), BlockOffset(0)),
+        value: Place::Block(BlockOffset(0), BlockOffset(0)),
+    };
+    let mut table = [none; 256];
     let mut i = 0;
     while i < n {
         let f = tables::field_at(t, i);
         table[i] = f;
         i += 1;
     }
+    table
+}
+
+// The map by value, with the fields that count alone.
+pub fn live_map(h: Head, t: &[u32]) -> HeaderMap
+    requires { ⌜ length (now t) ≡ 1024 ⌝ }
+    ensures { λ r. ⌜ r ≡ liveIn (now (t .entry)) h ⌝ }
+{
+    let n = few(h.fields);
+    let table = live_table(t, n);
     let status = h.status;
     let phase = h.phase;
     HeaderMap {
