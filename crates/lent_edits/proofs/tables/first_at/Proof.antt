@@ -35,7 +35,14 @@ matches-sanitised-requires : tie.Need-matches-sanitised-requires Inv-loop μ-loo
 matches-sanitised-requires c κs = search needs
 
 returns : tie.Need-returns Inv-loop μ-loop
-returns c = ?
+unfolding named
+returns c =
+    let l = c .before .before .before .before .before .loop in
+    let z = c .before .before .before .before .before .before .before .before .before .before in
+    let h : l .i < z .args .n = c .before .before .before .before .loop-test .taken in
+    let p = named (z .args .block .now) (z .args .store .now) (sanitised true (z .args .key .now)) in
+    let e = sym (c .before .matches-sanitised .ensures ∙ ap (λ (x : List ℕ). sameName x (sanitised true (z .args .key .now))) (c .before .before .part .ensures .is)) ∙ c .if1 .taken in
+    (sym (l .inv .1 ∙ hitting p (z .args .t .now) (z .args .n) (l .i) (z .pre .0) h _ (c .before .before .before .field-at .ensures) e), l .inv .0)
 
 add-i : tie.Need-add-i Inv-loop μ-loop
 add-i c = search needs
@@ -44,10 +51,21 @@ loop-less : tie.Need-loop-less Inv-loop μ-loop
 loop-less c = search needs
 
 loop-again : tie.Need-loop-again Inv-loop μ-loop
-loop-again c = ?
+unfolding named
+loop-again c =
+    let l = c .before .before .before .before .before .loop in
+    let z = c .before .before .before .before .before .before .before .before .before .before in
+    let h : l .i < z .args .n = c .before .before .before .before .loop-test .taken in
+    let p = named (z .args .block .now) (z .args .store .now) (sanitised true (z .args .key .now)) in
+    let e = sym (c .before .matches-sanitised .ensures ∙ ap (λ (x : List ℕ). sameName x (sanitised true (z .args .key .now))) (c .before .before .part .ensures .is)) ∙ c .if1 .left in
+    (search needs, l .inv .1 ∙ passing p (z .args .t .now) (z .args .n) (l .i) (z .pre .0) h _ (c .before .before .before .field-at .ensures) e)
 
 returns-2 : tie.Need-returns-2 Inv-loop μ-loop
-returns-2 c = ?
+returns-2 c =
+    let l = c .before .loop in
+    let z = c .before .before .before .before .before .before in
+    let p = named (z .args .block .now) (z .args .store .now) (sanitised true (z .args .key .now)) in
+    (sym (l .inv .1 ∙ first-none p (z .args .t .now) (z .args .n) (l .i) (c .loop-test .left)), l .inv .0)
 
 pub first-at-spec : {M : Type 1} → statement M
 first-at-spec =
