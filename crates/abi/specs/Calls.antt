@@ -7,10 +7,9 @@ use Prim.Native.Nat.{ℕ, _+_, _<_}
 use lib.Dec.{eqb}
 use lib.ListN.{length, set, getD}
 use Rattle.leaves.specs.Choice.{if_then_else_}
-use Rattle.leaves.specs.Paste.{lay}
 use Rattle.leaves.specs.Refusals.{number, refusal}
 use Rattle.leaves.specs.Numbers.{done, missing, yes, other, inTheBlock, inTheStore}
-use Rattle.maps.specs.Good.{live, checkedDone, unless}
+use Rattle.maps.specs.Good.{checkedDone, unless}
 use Rattle.maps.specs.Maps.{Given}
 use Rattle.maps.specs.Places.{at, inBlock, inStore, noField}
 use Rattle.maps.specs.declared.HeaderMap.{HeaderMap}
@@ -22,8 +21,6 @@ use Rattle.reader.specs.Calls.{beginning, feeding, finishing, clearing}
 use Rattle.reader.specs.declared.Fed.{Fed}
 use Rattle.reader.specs.declared.Made.{Made}
 use Rattle.edits.specs.Edits.{setting, appending, removing, statusing}
-use Rattle.edits.specs.declared.Edit.{Edit}
-use Rattle.edits.specs.declared.Edit.the-variants.{Done, Refused as Unedited}
 use Rattle.edits.specs.declared.Edited.{Edited}
 use Rattle.lookups.specs.Lookups.{finding, valuePlace, keyPlace, statusPlace}
 use Rattle.lookups.specs.declared.Found.{Found}
@@ -48,7 +45,7 @@ use Rattle.walker.specs.declared.Step.{Step}
 use Rattle.walker.specs.declared.Step.the-variants.{More, Record, Body, End, Refused as Unwalked}
 use Rattle.walker.specs.declared.Walked.{Walked}
 use Rattle.maps.specs.Heads.{headOf as headIn, unmadeHead}
-use Rattle.lent.specs.Table.{mapIn, tableOf, numbersOf}
+use Rattle.lent.specs.Table.{mapIn, numbersOf}
 use Rattle.lent.specs.Numbers.{headNumbers, soundMap, longMap, mapOf}
 use Rattle.lent_walker.specs.Trail.{trailNumbers, soundTrail, walkerOf}
 use Rattle.maps.specs.Answers.{told as checkedOf}
@@ -159,11 +156,6 @@ removeGives n t b s k = if soundMap n t then outOf editAnswer noNumbers editMap 
 
 unfoldable pub statusGives : List ℕ → List ℕ → List ℕ → List ℕ → List ℕ → Out
 statusGives n t b s x = if soundMap n t then outOf editAnswer noNumbers editMap (statusing (mapOf n t) b s x) else damaged [] n t b s
-
--- the numbers of the map that an edit made; a refused one leaves them
-abbrev pub Kept : Edit → HeaderMap → List ℕ → List ℕ → List ℕ → List ℕ → Type 0
-Kept Done m n t n′ t′ = (n′ ≡ headNumbers (headIn m)) × (tableOf t′ ≡ lay (tableOf t) (live m)) × (length t′ ≡ 1024)
-Kept (Unedited e) m n t n′ t′ = (n′ ≡ n) × (t′ ≡ t)
 
 -- a walker: beside its map's numbers a trail is lent
 pub record Went : Type 0 where

@@ -1,6 +1,7 @@
 // What a map tells, what tests say of maps and of octets, and the resume check.
 use crate::answers;
 use crate::opening;
+use lent::heads;
 use codes::Kind;
 use codes::Length;
 use codes::line::Code;
@@ -32,8 +33,8 @@ pub extern "C" fn bisquecrow_status_code<'a>(
     ensures { λ r. ⌜ Tells (codeTells (now (head .entry)) (now (table .entry)) (now (code .entry)) (now (block .entry)) (now (store .entry))) r (now (code .exit)) ⌝ }
 {
     if lent::is_sound(head, table) {
-        let m = lent::live_at(head, table);
-        let c = codes::status_code(m, block, store);
+        let h = heads::head_at(head);
+        let c = lent_codes::status_code(h, table, block, store);
         put_code(c, code);
         return answers::coded(c);
     }
@@ -64,8 +65,8 @@ pub extern "C" fn bisquecrow_content_length<'a>(
     ensures { λ r. ⌜ Tells (lengthTells (now (head .entry)) (now (table .entry)) (now (length .entry)) (now (block .entry)) (now (store .entry))) r (now (length .exit)) ⌝ }
 {
     if lent::is_sound(head, table) {
-        let m = lent::live_at(head, table);
-        let l = codes::content_length(m, block, store);
+        let h = heads::head_at(head);
+        let l = lent_codes::content_length(h, table, block, store);
         put_length(l, length);
         return answers::measured(l);
     }
@@ -95,8 +96,8 @@ pub extern "C" fn bisquecrow_record_type<'a>(
     ensures { λ r. ⌜ Tells (kindTells (now (head .entry)) (now (table .entry)) (now (code .entry)) (now (block .entry)) (now (store .entry))) r (now (code .exit)) ⌝ }
 {
     if lent::is_sound(head, table) {
-        let m = lent::live_at(head, table);
-        let k = codes::record_type(m, block, store);
+        let h = heads::head_at(head);
+        let k = lent_codes::record_type(h, table, block, store);
         put_type(k, code);
         return answers::typed(k);
     }

@@ -1,5 +1,6 @@
 // Write and rebuild.
 use crate::answers;
+use lent::heads;
 use writes::Wrote;
 ghost use mathlib.Core.Path.{_≡_};
 ghost use Rattle.abi.specs.Calls.{Puts, countNumber, writePuts, rebuildPuts};
@@ -28,8 +29,8 @@ pub extern "C" fn bisquecrow_write<'a>(
     ensures { λ r. ⌜ Puts (writePuts (now (head .entry)) (now (table .entry)) (now (count .entry)) (now (block .entry)) (now (store .entry)) (now (out .entry))) r (now (count .exit)) (now (out .exit)) ⌝ }
 {
     if lent::is_sound(head, table) {
-        let m = lent::live_at(head, table);
-        let w = writes::write(m, block, store, out);
+        let h = heads::head_at(head);
+        let w = lent_writes::write(h, table, block, store, out);
         put_count(w, count);
         return answers::wrote(w);
     }
@@ -49,8 +50,8 @@ pub extern "C" fn bisquecrow_rebuild<'a>(
     ensures { λ r. ⌜ Puts (rebuildPuts (now (head .entry)) (now (table .entry)) (now (count .entry)) (now (block .entry)) (now (store .entry)) (now (out .entry))) r (now (count .exit)) (now (out .exit)) ⌝ }
 {
     if lent::is_sound(head, table) {
-        let m = lent::live_at(head, table);
-        let w = writes::rebuild(m, block, store, out);
+        let h = heads::head_at(head);
+        let w = lent_writes::rebuild(h, table, block, store, out);
         put_count(w, count);
         return answers::wrote(w);
     }

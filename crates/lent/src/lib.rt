@@ -15,10 +15,9 @@ ghost use Prim.Native.Nat.{_≤_, min};
 ghost use lib.ListN.{length, take, replicate};
 ghost use Rattle.leaves.specs.Paste.{lay};
 ghost use Rattle.maps.specs.Places.{noField};
-ghost use Rattle.maps.specs.Good.{FitAll, Small, live, good, checked};
-ghost use Rattle.maps.specs.Heads.{headOf as headIn};
+ghost use Rattle.maps.specs.Good.{FitAll, good, checked};
 ghost use Rattle.lent.specs.Table.{fieldsFrom, tableOf, mapIn, liveIn};
-ghost use Rattle.lent.specs.Numbers.{headNumbers, headOf, soundMap, longMap};
+ghost use Rattle.lent.specs.Numbers.{headOf, soundMap, longMap};
 
 // How many numbers a table is.
 pub const TABLE: usize = 1024;
@@ -162,35 +161,4 @@ pub fn live_at(n: &[u64], t: &[u32]) -> HeaderMap
 {
     let h = heads::head_at(n);
     live_map(h, t)
-}
-
-fn head_of(m: HeaderMap) -> Head
-    ensures { λ r. ⌜ r ≡ headIn m ⌝ }
-{
-    let status = m.status;
-    let phase = m.phase;
-    Head {
-        limit: m.limit,
-        room: m.room,
-        count: m.count,
-        line: m.line,
-        mark: m.mark,
-        fields: m.fields,
-        status,
-        awaits: m.awaits,
-        quirks: m.quirks,
-        edited: m.edited,
-        phase,
-    }
-}
-
-// Puts the numbers of a map by value: its head, and the fields that count over the table's start.
-pub fn put_map(m: HeaderMap, n: &mut [u64], t: &mut [u32])
-    requires { ⌜ Small m × (length (now n) ≡ 13) × (length (now t) ≡ 1024) ⌝ }
-    ensures { λ _. ⌜ (now (n .exit) ≡ headNumbers (headIn m)) × (tableOf (now (t .exit)) ≡ lay (tableOf (now (t .entry))) (live m)) × (length (now (t .exit)) ≡ 1024) ⌝ }
-{
-    let head = head_of(m);
-    heads::put_head(n, head);
-    let table = m.table;
-    put_fields(table, m.fields, t);
 }
