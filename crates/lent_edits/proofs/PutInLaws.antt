@@ -6,14 +6,28 @@ use Prim.Native.Nat.{ℕ, zero, suc, _+_, _≤_, _<_}
 use native.Mathlib.Omega.{arith}
 use lib.ListN.{length, set, take, drop}
 use lib.Seq.{take-set-lt}
-use Rattle.maps.specs.Good.{Fit, FitAll, fit-none, fit-more}
+use Rattle.maps.specs.Good.{Fit, in-store, FitAll, fit-none, fit-more, live, Ready}
 use Rattle.maps.specs.declared.Field.{Field}
+use Rattle.maps.specs.declared.HeaderMap.{HeaderMap}
+use Rattle.maps.proofs.FitLaws.{all-mono}
 use Rattle.edits.specs.Fields.{keeps, putAt, laid}
 use Rattle.edits.specs.declared.tables.Kept.{Kept}
+use Rattle.edits.specs.Edits.{newField}
 use Rattle.edits.proofs.PutLaws.{put-last, put-inner}
 use Rattle.lent.specs.Table.{tableOf, fieldPut}
 use Rattle.lent.proofs.LentLaws.{fields-length, fields-set}
 use Rattle.lent_edits.specs.Lent.{keptIn}
+
+-- a good map's fields and the new field are numbers that a lent table holds
+pub all-fit : {m : HeaderMap} {b s : List ℕ} → Ready m b s → FitAll 65536 65536 (live m)
+all-fit {m} w =
+    let c : m .count ≤ 65536 = omega (arith, w .count, w .small) in
+    let k : m .mark ≤ 65536 = omega (arith, w .mark, w .most) in
+    all-mono c k (w .fields)
+
+pub new-fit : (mark k v : ℕ) → mark + k + v ≤ 65536 → (f : Field) → f ≡ newField mark k v → Fit 65536 65536 f
+new-fit mark k v h f e =
+    rw e (record { key = in-store mark (mark + k) (omega arith) (omega (arith, h)); value = in-store (mark + k) (mark + k + v) (omega arith) h })
 
 -- fields fit with one of them replaced
 all-set : {b s : ℕ} {xs : List Field} (i : ℕ) {f : Field} → FitAll b s xs → Fit b s f → FitAll b s (set xs i f)
