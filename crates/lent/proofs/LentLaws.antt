@@ -123,13 +123,17 @@ module _ (t : List ℕ) (i : ℕ) (f : Field) where
       by : (b : Bool) → ltb j i ≡ b → fieldAt (fieldPut t i f) j ≡ fieldAt t j
       by true u =
           let l : j < i = ltb-true _ _ u in
-          rw (put-before mid (i * 4 + 2) (f .value) (j * 4) (omega (arith, l)) ∙ put-before t (i * 4) (f .key) (j * 4) (omega (arith, l)),
-          put-before mid (i * 4 + 2) (f .value) (j * 4 + 2) (omega (arith, l)) ∙ put-before t (i * 4) (f .key) (j * 4 + 2) (omega (arith, l)))
+          rw (
+            put-before mid (i * 4 + 2) (f .value) (j * 4) (omega (arith, l)) ∙ put-before t (i * 4) (f .key) (j * 4) (omega (arith, l)),
+            put-before mid (i * 4 + 2) (f .value) (j * 4 + 2) (omega (arith, l)) ∙ put-before t (i * 4) (f .key) (j * 4 + 2) (omega (arith, l)),
+          )
       by false u =
           let l : i ≤ j = ltb-false _ _ u in
           let k : i < j = lt-of-le-ne l (λ e. n (sym e)) in
-          rw (put-behind mid (i * 4 + 2) (f .value) (j * 4) (omega (arith, k)) ∙ put-behind t (i * 4) (f .key) (j * 4) (omega (arith, k)),
-          put-behind mid (i * 4 + 2) (f .value) (j * 4 + 2) (omega (arith, k)) ∙ put-behind t (i * 4) (f .key) (j * 4 + 2) (omega (arith, k)))
+          rw (
+            put-behind mid (i * 4 + 2) (f .value) (j * 4) (omega (arith, k)) ∙ put-behind t (i * 4) (f .key) (j * 4) (omega (arith, k)),
+            put-behind mid (i * 4 + 2) (f .value) (j * 4 + 2) (omega (arith, k)) ∙ put-behind t (i * 4) (f .key) (j * 4 + 2) (omega (arith, k)),
+          )
 
   module _ (long : length t ≡ 1024) (few : i < 256) (fit : Fit 65536 65536 f) where
     pub field-same : fieldAt (fieldPut t i f) i ≡ f
@@ -148,6 +152,7 @@ module _ (t : List ℕ) (i : ℕ) (f : Field) where
           where
             l : j < 256
             l = rw (fields-length (fieldPut t i f) 0 256) at h
+
             by : (b : Bool) → eqb j i ≡ b → getD (fieldsFrom (fieldPut t i f) 0 256) j noField ≡ getD (set (fieldsFrom t 0 256) i f) j noField
             by true u =
                 let e : j ≡ i = eqb-true _ _ u in

@@ -17,6 +17,7 @@ use Rattle.edits.proofs.PutLaws.{put-last, put-inner}
 use Rattle.lent.specs.Table.{tableOf, fieldPut}
 use Rattle.lent.proofs.LentLaws.{fields-length, fields-set}
 use Rattle.lent_edits.specs.Lent.{keptIn}
+use Rattle.lent_edits.proofs.ThinLaws.{within}
 
 -- a good map's fields and the new field are numbers that a lent table holds
 pub all-fit : {m : HeaderMap} {b s : List ℕ} → Ready m b s → FitAll 65536 65536 (live m)
@@ -40,9 +41,6 @@ module _ (new : Field) (t : List ℕ) (n i : ℕ) (long : length t ≡ 1024) (fe
   is-set : tableOf u ≡ set (tableOf t) i new
   is-set = ap tableOf e ∙ fields-set t i new long inside fit
 
-  within : n ≤ length (tableOf t)
-  within = rw (fields-length t 0 256) few
-
   there : i < length (tableOf t)
   there = rw (fields-length t 0 256) inside
 
@@ -53,8 +51,8 @@ module _ (new : Field) (t : List ℕ) (n i : ℕ) (long : length t ≡ 1024) (fe
 
   module _ (p : Field → Bool) (h : i ≤ n) where
     pub at-the-end : n < i + 1 → keptIn u (i + 1) ≡ laid (tableOf t) (putAt p new i (take n (tableOf t)))
-    at-the-end l = rw is-set (put-last p new (tableOf t) n i within h there l)
+    at-the-end l = rw is-set (put-last p new (tableOf t) n i (within t n few) h there l)
 
     pub among-them : i + 1 ≤ n → (r : Kept) → r ≡ laid (tableOf u) (take (i + 1) (tableOf u) ++ keeps p (drop (i + 1) (take n (tableOf u))))
         → r ≡ laid (tableOf t) (putAt p new i (take n (tableOf t)))
-    among-them l r d = put-inner p new (tableOf t) n i within h there l r (rw is-set at d)
+    among-them l r d = put-inner p new (tableOf t) n i (within t n few) h there l r (rw is-set at d)

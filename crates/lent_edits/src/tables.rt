@@ -43,13 +43,7 @@ pub fn compact<'a>(
 }
 
 // The number of the first field whose key is the sanitised key, or that of fields.
-pub fn first_at<'a>(
-    t: &[u32],
-    n: usize,
-    block: &'a [u8],
-    store: &'a [u8],
-    key: &[u8],
-) -> usize
+pub fn first_at<'a>(t: &[u32], n: usize, block: &'a [u8], store: &'a [u8], key: &[u8]) -> usize
     requires { ⌜ (n ≤ 256) × (length (now t) ≡ 1024) ⌝ }
     ensures { λ r. ⌜ (r ≡ firstAt (named (now (block .entry)) (now (store .entry)) (sanitised true (now (key .entry)))) (take n (tableOf (now (t .entry))))) × (r ≤ n) ⌝ }
 {

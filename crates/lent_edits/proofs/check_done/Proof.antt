@@ -2,11 +2,7 @@
 use borrow.Author.Needs.{needs}
 use Rattle.lent_edits.proofs.check_done.Statement.{statement}
 use Rattle.lent_edits.proofs.check_done.Tie as tie
-use native.Mathlib.Omega.{arith}
-use mathlib.Core.Path.{_≡_, sym, ap, _∙_}
-use mathlib.Core.Bool.{true, false}
-use Prim.Native.Nat.{_+_, _-_, _≤_, _<_}
-use lib.ListN.{length}
+use mathlib.Core.Path.{_∙_}
 
 is-done-requires : tie.Need-is-done-requires
 is-done-requires c κs = search needs

@@ -10,7 +10,7 @@ use borrow.Author.Needs.{needs}
 use Rattle.lent_edits.proofs.put_at.Statement.{statement}
 use Rattle.lent_edits.proofs.put_at.Tie as tie
 use native.Mathlib.Omega.{arith}
-use mathlib.Core.Path.{_≡_, sym, ap, _∙_}
+use mathlib.Core.Path.{_≡_, sym, _∙_}
 use mathlib.Core.Bool.{true, false}
 use Prim.Native.Nat.{_+_, _-_, _≤_, _<_}
 use lib.ListN.{length}

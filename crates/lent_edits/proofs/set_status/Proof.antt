@@ -8,9 +8,9 @@ use borrow.Author.Needs.{needs}
 use Rattle.lent_edits.proofs.set_status.Statement.{statement}
 use Rattle.lent_edits.proofs.set_status.Tie as tie
 use native.Mathlib.Omega.{arith}
-use mathlib.Core.Path.{_≡_, sym, ap, _∙_}
-use mathlib.Core.Bool.{true, false}
-use Prim.Native.Nat.{_+_, _-_, _≤_, _<_}
+use mathlib.Core.Path.{_≡_, sym, _∙_}
+use mathlib.Core.Bool.{true}
+use Prim.Native.Nat.{_+_, _≤_, _<_}
 use lib.ListN.{length}
 
 check-done-requires : tie.Need-check-done-requires

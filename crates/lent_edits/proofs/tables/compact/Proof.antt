@@ -8,10 +8,9 @@ use Rattle.lent_edits.proofs.tables.compact.Statement.{statement}
 use Rattle.lent_edits.proofs.tables.compact.Tie as tie
 use borrow.Author.Needs.{needs}
 use native.Mathlib.Omega.{arith}
-use mathlib.Core.Path.{_≡_, sym, ap, _∙_}
+use mathlib.Core.Path.{sym, ap, _∙_}
 use mathlib.Core.Bool.{true}
-use Prim.Native.Nat.{ℕ, _-_, _≤_, _<_}
-use lib.ListN.{length}
+use Prim.Native.Nat.{ℕ, _-_, _<_}
 
 abbrev Inv-loop : tie.InvT-loop
 Inv-loop t₀ start n block store key k₀ i₀ t k i = Thinning (named block store (sanitised true key)) t₀ start n t k i

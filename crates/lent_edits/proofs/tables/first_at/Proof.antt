@@ -4,17 +4,17 @@ use Rattle.leaves.specs.Name.{sameName}
 use Rattle.leaves.specs.Sanitise.{sanitised}
 use Rattle.lookups.specs.Lookups.{named}
 use Rattle.edits.specs.Fields.{firstAt}
+use Rattle.edits.proofs.KeepLaws.{first-end}
 use Rattle.lent.specs.Table.{tableOf}
-use Rattle.lent_edits.proofs.ThinLaws.{passing, hitting, first-none}
+use Rattle.lent_edits.proofs.ThinLaws.{first-passed, first-found}
 use native.Mathlib.Nat.{zero-add}
 use Rattle.lent_edits.proofs.tables.first_at.Statement.{statement}
 use Rattle.lent_edits.proofs.tables.first_at.Tie as tie
 use borrow.Author.Needs.{needs}
-use native.Mathlib.Omega.{arith}
 use mathlib.Core.Path.{_≡_, sym, ap, _∙_}
 use mathlib.Core.Bool.{true}
 use Prim.Native.Nat.{ℕ, _+_, _-_, _≤_, _<_}
-use lib.ListN.{length, take, drop}
+use lib.ListN.{take, drop}
 
 abbrev Inv-loop : tie.InvT-loop
 Inv-loop t n block store key i₀ i = (i ≤ n) × (firstAt (named block store (sanitised true key)) (take n (tableOf t)) ≡ i + firstAt (named block store (sanitised true key)) (drop i (take n (tableOf t))))
@@ -42,7 +42,7 @@ returns c =
     let h : l .i < z .args .n = c .before .before .before .before .loop-test .taken in
     let p = named (z .args .block .now) (z .args .store .now) (sanitised true (z .args .key .now)) in
     let e = sym (c .before .matches-sanitised .ensures ∙ ap (λ (x : List ℕ). sameName x (sanitised true (z .args .key .now))) (c .before .before .part .ensures .is)) ∙ c .if1 .taken in
-    (sym (l .inv .1 ∙ hitting p (z .args .t .now) (z .args .n) (l .i) (z .pre .0) h _ (c .before .before .before .field-at .ensures) e), l .inv .0)
+    (sym (l .inv .1 ∙ first-found p (z .args .t .now) (z .args .n) (l .i) (z .pre .0) h _ (c .before .before .before .field-at .ensures) e), l .inv .0)
 
 add-i : tie.Need-add-i Inv-loop μ-loop
 add-i c = search needs
@@ -58,14 +58,14 @@ loop-again c =
     let h : l .i < z .args .n = c .before .before .before .before .loop-test .taken in
     let p = named (z .args .block .now) (z .args .store .now) (sanitised true (z .args .key .now)) in
     let e = sym (c .before .matches-sanitised .ensures ∙ ap (λ (x : List ℕ). sameName x (sanitised true (z .args .key .now))) (c .before .before .part .ensures .is)) ∙ c .if1 .left in
-    (search needs, l .inv .1 ∙ passing p (z .args .t .now) (z .args .n) (l .i) (z .pre .0) h _ (c .before .before .before .field-at .ensures) e)
+    (search needs, l .inv .1 ∙ first-passed p (z .args .t .now) (z .args .n) (l .i) (z .pre .0) h _ (c .before .before .before .field-at .ensures) e)
 
 returns-2 : tie.Need-returns-2 Inv-loop μ-loop
 returns-2 c =
     let l = c .before .loop in
     let z = c .before .before .before .before .before .before in
     let p = named (z .args .block .now) (z .args .store .now) (sanitised true (z .args .key .now)) in
-    (sym (l .inv .1 ∙ first-none p (z .args .t .now) (z .args .n) (l .i) (c .loop-test .left)), l .inv .0)
+    (sym (l .inv .1 ∙ first-end p (tableOf (z .args .t .now)) (z .args .n) (l .i) (c .loop-test .left)), l .inv .0)
 
 pub first-at-spec : {M : Type 1} → statement M
 first-at-spec =

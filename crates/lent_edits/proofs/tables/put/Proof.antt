@@ -5,11 +5,7 @@ use Rattle.lent_edits.proofs.PutInLaws.{still-fit, at-the-end, among-th
 use borrow.Author.Needs.{needs}
 use Rattle.lent_edits.proofs.tables.put.Statement.{statement}
 use Rattle.lent_edits.proofs.tables.put.Tie as tie
-use native.Mathlib.Omega.{arith}
-use mathlib.Core.Path.{_≡_, _∙_}
 use mathlib.Core.Bool.{true}
-use Prim.Native.Nat.{_-_, _≤_, _<_}
-use lib.ListN.{length}
 
 put-field-requires : tie.Need-put-field-requires
 put-field-requires c κs = search needs
@@ -29,7 +25,7 @@ returns c =
 compact-requires : tie.Need-compact-requires
 compact-requires c κs =
     let z = c .before .before .before .before .before .before .before .before .before .before in
-    (c .before .if1 .left, z .pre .0, search needs, still-fit (z .args .f) (z .args .t .now) (z .args .n) (z .args .at) (z .pre .3) (z .pre .0) (z .pre .1) (z .pre .5) _ (c .before .before .before .before .put-field .ensures) (z .pre .4) (c .before .if1 .left))
+    (search needs, z .pre .0, search needs, still-fit (z .args .f) (z .args .t .now) (z .args .n) (z .args .at) (z .pre .3) (z .pre .0) (z .pre .1) (z .pre .5) _ (c .before .before .before .before .put-field .ensures) (z .pre .4) (c .before .if1 .left))
 
 same-length-2 : tie.Need-same-length-2
 same-length-2 c = search needs
