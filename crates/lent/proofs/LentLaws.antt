@@ -1,28 +1,31 @@
--- Laws of a table of fields in lent numbers: its fields, a field put, the numbers got back. Assumes nothing.
+-- Laws of a map in lent numbers: its fields, a field put, the numbers got back, of a table and of a head. Assumes nothing.
 use mathlib.Core.Path.{_≡_, refl, sym, ap, _∙_}
 use mathlib.Core.Logic.{_≢_}
 use mathlib.Core.Bool.{Bool, true, false, _&&_}
-use mathlib.Core.List.{List, [], _∷_, _++_}
-use Prim.Native.Nat.{ℕ, zero, suc, _+_, _*_, _-_, _≤_, _<_}
+use mathlib.Core.List.{List, [], _∷_, _++_, append-nil}
+use Prim.Native.Nat.{ℕ, zero, suc, _+_, _*_, _-_, _≤_, _<_, min}
 use native.Mathlib.Omega.{arith}
 use native.Mathlib.Numerals.{add-one}
-use borrow.Author.Tests.{eqb-true, eqb-false, ltb-true, ltb-false, lt-ltb, le-ltb}
+use borrow.Author.Tests.{eqb-true, eqb-false, ltb-true, ltb-false, leb-true, leb-false, lt-ltb, le-ltb}
 use lib.Arith.{lt-of-le-ne}
-use lib.Dec.{eqb, ltb}
-use lib.ListN.{length, getD, set, take, drop, replicate, length-set}
-use lib.Seq.{getD-set-same, getD-set-other, ext-getD, length-take-le, paste, paste-suc}
+use lib.Dec.{eqb, leb, ltb}
+use lib.ListN.{length, getD, set, take, drop, replicate, length-append, length-drop, length-replicate, length-set, drop-of-length-le}
+use lib.Seq.{getD-set-same, getD-set-other, ext-getD, length-take-le, take-at, drop-cons, sets, sets-eq, paste, paste-suc}
 use Rattle.leaves.specs.Choice.{if_then_else_}
 use Rattle.leaves.specs.Paste.{lay}
-use Rattle.leaves.proofs.ChoiceLaws.{if-true, if-false}
+use Rattle.leaves.proofs.ChoiceLaws.{by-if, if-true, if-false, and-left, and-right}
 use Rattle.maps.specs.Places.{inBlock, inStore, noField}
 use Rattle.maps.specs.Good.{Fits, in-block, in-store, Fit, goodField, goodFields}
 use Rattle.maps.specs.declared.Place.{Place}
-use Rattle.maps.specs.declared.Place.the-variants.{Block, Store}
 use Rattle.maps.specs.declared.Field.{Field}
-use Rattle.lookups.specs.declared.Found.{Found}
+use Rattle.maps.specs.declared.Status.the-variants.{Absent, At as Stands}
+use Rattle.maps.specs.declared.Phase.{Phase}
+use Rattle.maps.specs.declared.Phase.the-variants.{Reading, Done}
+use Rattle.maps.specs.declared.Head.{Head}
 use Rattle.lookups.specs.declared.Found.the-variants.{At, Missing}
 use Rattle.lookups.specs.Lookups.{seeking}
-use Rattle.lent.specs.Table.{storeMark, placeOf, fromOf, toOf, placeAt, fieldAt, fieldsFrom, tableOf, placePut, fieldPut}
+use Rattle.lent.specs.Table.{storeMark, placeOf, fromOf, toOf, placeAt, fieldAt, fieldsFrom, tableOf, numbersOf, placePut, fieldPut, liveIn}
+use Rattle.lent.specs.Numbers.{flagOf, phaseNumber, statusKind, statusFrom, statusTo, headNumbers, statusOf, phaseOf, headOf, soundStatus, soundHead, soundMap}
 
 module _ (t : List ℕ) (n i : ℕ) where
   pub from-cons : i < n → fieldsFrom t i (n - i) ≡ fieldAt t i ∷ fieldsFrom t (i + 1) (n - (i + 1))
@@ -85,7 +88,7 @@ module _ (t : List ℕ) (at : ℕ) (p : Place) where
   pub put-length : length (placePut t at p) ≡ length t
   put-length = length-set one (at + 1) (toOf p) ∙ length-set t at (fromOf p)
 
-  pub put-same : at + 1 < length t → Fits 65536 65536 p → placeAt (placePut t at p) at ≡ p
+  put-same : at + 1 < length t → Fits 65536 65536 p → placeAt (placePut t at p) at ≡ p
   put-same h w =
       let n : at ≢ at + 1 = λ e. absurd (omega (arith, e)) in
       let l₀ : at < length t = omega (arith, h) in
@@ -104,10 +107,10 @@ module _ (t : List ℕ) (at : ℕ) (p : Place) where
   get-behind : (j : ℕ) → at + 1 < j → getD (placePut t at p) j 0 ≡ getD t j 0
   get-behind j h = get-other j (λ e. absurd (omega (arith, e, h))) (λ e. absurd (omega (arith, e, h)))
 
-  pub put-before : (j : ℕ) → j + 1 < at → placeAt (placePut t at p) j ≡ placeAt t j
+  put-before : (j : ℕ) → j + 1 < at → placeAt (placePut t at p) j ≡ placeAt t j
   put-before j h = rw (get-before j (omega (arith, h)), get-before (j + 1) h)
 
-  pub put-behind : (j : ℕ) → at + 1 < j → placeAt (placePut t at p) j ≡ placeAt t j
+  put-behind : (j : ℕ) → at + 1 < j → placeAt (placePut t at p) j ≡ placeAt t j
   put-behind j h = rw (get-behind j h, get-behind (j + 1) (omega (arith, h)))
 
 module _ (t : List ℕ) (i : ℕ) (f : Field) where
@@ -169,6 +172,18 @@ fields-take t i k zero h = refl
 fields-take t i zero (suc n) h = absurd (omega (arith, h))
 fields-take t i (suc k) (suc n) h = ap (λ (xs : List Field). fieldAt t i ∷ xs) (fields-take t (i + 1) k n (omega (arith, h)))
 
+drop-behind : (t : List ℕ) (j k i : ℕ) → drop i (fieldsFrom t j k) ≡ fieldsFrom t (j + i) (k - i)
+unfolding fieldsFrom
+drop-behind t j k zero = let e : j ≡ j + 0 = omega arith in let f : k ≡ k - 0 = omega arith in ap (λ (x : ℕ). fieldsFrom t x k) e ∙ ap (fieldsFrom t (j + 0)) f
+drop-behind t j zero (suc i) = let e : 0 - suc i ≡ 0 = omega arith in rw e
+drop-behind t j (suc k) (suc i) =
+    let e : j + 1 + i ≡ j + suc i = omega arith in
+    let f : k - i ≡ suc k - suc i = omega arith in
+    drop-behind t (j + 1) k i ∙ ap (λ (x : ℕ). fieldsFrom t x (k - i)) e ∙ ap (fieldsFrom t (j + suc i)) f
+
+pub drop-fields : (t : List ℕ) (n i : ℕ) → drop i (fieldsFrom t 0 n) ≡ fieldsFrom t i (n - i)
+drop-fields t n i = let e : 0 + i ≡ i = omega arith in drop-behind t 0 n i ∙ ap (λ (x : ℕ). fieldsFrom t x (n - i)) e
+
 module _ (count mark : ℕ) (t : List ℕ) (n i : ℕ) where
   pub good-next : i < n → goodFields count mark (fieldsFrom t i (n - i)) ≡ (goodField count mark (fieldAt t i) && goodFields count mark (fieldsFrom t (i + 1) (n - (i + 1))))
   unfolding goodFields
@@ -212,3 +227,183 @@ module _ (l s : List Field) (long : length s ≡ 256) where
   in-end u n i h a b p =
       let e : i ≡ n = omega (arith, a, b) in
       p ∙ ap (paste l 0 s) e ∙ paste-lay l s n (omega (arith, h, long))
+
+-- the fields that count are those of the lent table, whatever the head says
+module _ (t : List ℕ) (h : Head) where
+  pub live-same : take (h .fields) (liveIn t h .table) ≡ take (h .fields) (tableOf t)
+  live-same = by (leb (h .fields) 256) refl
+    where
+      by : (b : Bool) → leb (h .fields) 256 ≡ b → take (h .fields) (liveIn t h .table) ≡ take (h .fields) (tableOf t)
+      by true u =
+          let k : h .fields ≤ 256 = leb-true _ _ u in
+          let e : min (h .fields) 256 ≡ h .fields = omega (arith, k) in
+          rw e (take-at (fieldsFrom t 0 (h .fields)) (drop (length (fieldsFrom t 0 (h .fields))) (replicate 256 noField)) (h .fields) (fields-length t 0 (h .fields)) ∙ sym (fields-take t 0 256 (h .fields) k))
+      by false u =
+          let k : 256 < h .fields = leb-false _ _ u in
+          let e : min (h .fields) 256 ≡ 256 = omega (arith, k) in
+          rw (e, fields-length t 0 256, append-nil (fieldsFrom t 0 256))
+
+  pub live-length : length (liveIn t h .table) ≡ 256
+  live-length =
+      let xs = fieldsFrom t 0 (min (h .fields) 256) in
+      let a : length xs ≡ min (h .fields) 256 = fields-length t 0 (min (h .fields) 256) in
+      omega (arith, a, length-append xs (drop (length xs) (replicate 256 noField)), length-drop (length xs) (replicate 256 noField), length-replicate 256 noField)
+
+-- one table of numbers for one of fields
+module _ (from to : ℕ) where
+  from-again : fromOf (placeOf from to) ≡ from
+  unfolding placeOf
+  from-again = by-if (λ (p : Place). fromOf p ≡ from) (ltb from storeMark) _ _ (λ _. refl) (λ u. let l : storeMark ≤ from = ltb-false _ _ u in omega (arith, l))
+
+  to-again : toOf (placeOf from to) ≡ to
+  unfolding placeOf
+  to-again = by-if (λ (p : Place). toOf p ≡ to) (ltb from storeMark) _ _ (λ _. refl) (λ _. refl)
+
+numbers-from : (t : List ℕ) (i k : ℕ) → length t ≡ (i + k) * 4 → numbersOf (fieldsFrom t i k) ≡ drop (i * 4) t
+unfolding fieldsFrom numbersOf
+numbers-from t i zero h = let l : length t ≤ i * 4 = omega (arith, h) in sym (drop-of-length-le t l)
+numbers-from t i (suc k) h =
+    let a : i * 4 < length t = omega (arith, h) in
+    let b : i * 4 + 1 < length t = omega (arith, h) in
+    let d : i * 4 + 2 < length t = omega (arith, h) in
+    let e : i * 4 + 2 + 1 < length t = omega (arith, h) in
+    let f : suc (i * 4) ≡ i * 4 + 1 = omega arith in
+    let g : suc (i * 4 + 1) ≡ i * 4 + 2 = omega arith in
+    let j : suc (i * 4 + 2) ≡ i * 4 + 2 + 1 = omega arith in
+    let m : suc (i * 4 + 2 + 1) ≡ (i + 1) * 4 = omega arith in
+    let n : length t ≡ (i + 1 + k) * 4 = omega (arith, h) in
+    rw (
+      from-again (getD t (i * 4) 0) (getD t (i * 4 + 1) 0),
+      to-again (getD t (i * 4) 0) (getD t (i * 4 + 1) 0),
+      from-again (getD t (i * 4 + 2) 0) (getD t (i * 4 + 2 + 1) 0),
+      to-again (getD t (i * 4 + 2) 0) (getD t (i * 4 + 2 + 1) 0),
+      drop-cons t (i * 4) 0 a,
+      f,
+      drop-cons t (i * 4 + 1) 0 b,
+      g,
+      drop-cons t (i * 4 + 2) 0 d,
+      j,
+      drop-cons t (i * 4 + 2 + 1) 0 e,
+      m,
+      numbers-from t (i + 1) k n,
+    )
+
+pub numbers-again : (t : List ℕ) → length t ≡ 1024 → numbersOf (tableOf t) ≡ t
+numbers-again t h = numbers-from t 0 256 h
+
+-- a status by its kind
+module _ (kind from to : ℕ) where
+  pub status-absent : eqb kind 0 ≡ true → statusOf kind from to ≡ Absent
+  unfolding statusOf
+  status-absent e = if-true _ _ e
+
+  pub status-block : eqb kind 0 ≡ false → eqb kind 1 ≡ true → statusOf kind from to ≡ Stands (inBlock from to)
+  unfolding statusOf
+  status-block e f = if-false _ _ e ∙ ap (λ (p : Place). Stands p) (if-true _ _ f)
+
+  pub status-store : eqb kind 0 ≡ false → eqb kind 1 ≡ false → statusOf kind from to ≡ Stands (inStore from to)
+  unfolding statusOf
+  status-store e f = if-false _ _ e ∙ ap (λ (p : Place). Stands p) (if-false _ _ f)
+
+  -- what a sound one is
+  module _ (w : soundStatus kind from to ≡ true) where
+    sound-absent : eqb kind 0 ≡ true → (from ≡ 0) × (to ≡ 0)
+    unfolding soundStatus
+    sound-absent e =
+        let f = sym (if-true _ _ e) ∙ w in
+        (eqb-true _ _ (and-left (eqb from 0) (eqb to 0) f), eqb-true _ _ (and-right (eqb from 0) (eqb to 0) f))
+
+    pub sound-at : eqb kind 0 ≡ false → (kind ≤ 2) × (from < 4294967296) × (to < 4294967296)
+    unfolding soundStatus
+    sound-at e =
+        let f = sym (if-false _ _ e) ∙ w in
+        let g = and-right (leb kind 2) _ f in
+        (leb-true _ _ (and-left (leb kind 2) _ f), ltb-true _ _ (and-left (ltb from 4294967296) _ g), ltb-true _ _ (and-right (ltb from 4294967296) _ g))
+
+    status-again : (statusKind (statusOf kind from to) ≡ kind) × (statusFrom (statusOf kind from to) ≡ from) × (statusTo (statusOf kind from to) ≡ to)
+    status-again = by (eqb kind 0) (eqb kind 1) refl refl
+      where
+        by : (a b : Bool) → eqb kind 0 ≡ a → eqb kind 1 ≡ b → (statusKind (statusOf kind from to) ≡ kind) × (statusFrom (statusOf kind from to) ≡ from) × (statusTo (statusOf kind from to) ≡ to)
+        by true b e f =
+            let z = sound-absent e in
+            rw (status-absent e) (sym (eqb-true kind 0 e), sym (z .0), sym (z .1))
+        by false true e f = rw (status-block e f) (sym (eqb-true kind 1 f), refl, refl)
+        by false false e f =
+            let k : kind ≤ 2 = sound-at e .0 in
+            let a : 0 < kind = lt-of-le-ne (omega arith) (λ u. eqb-false kind 0 e (sym u)) in
+            let b : 1 < kind = lt-of-le-ne a (λ u. eqb-false kind 1 f (sym u)) in
+            rw (status-store e f) (omega (arith, k, b), refl, refl)
+
+-- a number that is 0 or 1
+module _ (n : ℕ) (w : leb n 1 ≡ true) where
+  zero-of : eqb n 1 ≡ false → 0 ≡ n
+  zero-of e = let l : n < 1 = lt-of-le-ne (leb-true _ _ w) (eqb-false n 1 e) in omega (arith, l)
+
+  flag-again : flagOf (eqb n 1) ≡ n
+  flag-again = by (eqb n 1) refl
+    where
+      by : (b : Bool) → eqb n 1 ≡ b → flagOf b ≡ n
+      by true e = sym (eqb-true n 1 e)
+      by false e = zero-of e
+
+  phase-again : phaseNumber (phaseOf n) ≡ n
+  phase-again = by-if (λ (p : Phase). phaseNumber p ≡ n) (eqb n 1) Reading Done (λ e. sym (eqb-true n 1 e)) zero-of
+
+-- numbers written one by one
+abbrev listed : List ℕ → ℕ → ℕ → List ℕ
+listed n i zero = []
+listed n i (suc k) = getD n i 0 ∷ listed n (suc i) k
+
+listed-all : (n : List ℕ) (i k : ℕ) → length n ≡ i + k → drop i n ≡ listed n i k
+listed-all n i zero h = let l : length n ≤ i = omega (arith, h) in drop-of-length-le n l
+listed-all n i (suc k) h =
+    let l : i < length n = omega (arith, h) in
+    let e : length n ≡ suc i + k = omega (arith, h) in
+    drop-cons n i 0 l ∙ ap (λ (x : List ℕ). getD n i 0 ∷ x) (listed-all n (suc i) k e)
+
+-- thirteen numbers stored over thirteen
+pub stored : (n v : List ℕ) → length n ≡ 13 → length v ≡ 13 → sets n 0 v ≡ v
+stored n v h k =
+    let l : 0 + length v ≤ length n = omega (arith, h, k) in
+    let m : length n ≤ 0 + length v = omega (arith, h, k) in
+    sets-eq v n 0 l ∙ rw (drop-of-length-le n m) (append-nil v)
+
+-- what the tests of a head say
+module _ (n : List ℕ) (w : soundHead n ≡ true) where
+  pub head-long : length n ≡ 13
+  unfolding soundHead
+  head-long = eqb-true _ _ (and-left (eqb (length n) 13) _ w)
+
+  abbrev flags : Bool
+  flags = leb (getD n 9 0) 1 && (leb (getD n 10 0) 1 && (leb (getD n 11 0) 1 && leb (getD n 12 0) 1))
+
+  head-tests : (soundStatus (getD n 6 0) (getD n 7 0) (getD n 8 0) && flags) ≡ true
+  unfolding soundHead
+  head-tests = and-right (eqb (length n) 13) _ w
+
+  pub head-status : soundStatus (getD n 6 0) (getD n 7 0) (getD n 8 0) ≡ true
+  head-status = and-left _ flags head-tests
+
+  head-flags : flags ≡ true
+  head-flags = and-right (soundStatus (getD n 6 0) (getD n 7 0) (getD n 8 0)) flags head-tests
+
+  -- one list of numbers for one head
+  pub head-again : headNumbers (headOf n) ≡ n
+  head-again =
+      let s = status-again (getD n 6 0) (getD n 7 0) (getD n 8 0) head-status in
+      let a = and-right (leb (getD n 9 0) 1) _ head-flags in
+      let b = and-right (leb (getD n 10 0) 1) _ a in
+      let f₉ = flag-again (getD n 9 0) (and-left (leb (getD n 9 0) 1) _ head-flags) in
+      let f₁₀ = flag-again (getD n 10 0) (and-left (leb (getD n 10 0) 1) _ a) in
+      let f₁₁ = flag-again (getD n 11 0) (and-left (leb (getD n 11 0) 1) _ b) in
+      let p = phase-again (getD n 12 0) (and-right (leb (getD n 11 0) 1) _ b) in
+      rw (s .0, s .1, s .2, f₉, f₁₀, f₁₁, p) (sym (listed-all n 0 13 head-long))
+
+-- and those of a map
+module _ (n t : List ℕ) (w : soundMap n t ≡ true) where
+  pub sound-parts : (soundHead n ≡ true) × (length t ≡ 1024)
+  unfolding soundMap
+  sound-parts = (and-left (soundHead n) _ w, eqb-true _ _ (and-right (soundHead n) _ w))
+
+  pub sound-long : (length n ≡ 13) × (length t ≡ 1024)
+  sound-long = (head-long n (sound-parts .0), sound-parts .1)

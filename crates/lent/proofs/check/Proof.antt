@@ -1,7 +1,6 @@
 -- `lent::check` meets its contract. Assumes nothing.
 use Rattle.lent.specs.Table.{mapIn}
 use mathlib.Core.Path.{sym, _∙_}
-use Prim.Native.Nat.{_-_}
 use borrow.Author.Tests.{le-leb, lt-leb}
 use Rattle.maps.proofs.GoodLaws.{and-go, and-stop, checked-bad, checked-short, checked-wrong, checked-fine}
 use Rattle.leaves.proofs.ChoiceLaws.{and-both}

@@ -2,19 +2,11 @@
 use Rattle.maps.proofs.GoodBy.{counts-few}
 use Rattle.maps.proofs.GoodLaws.{and-go, and-stop}
 use Rattle.maps.specs.Good.{good, goodFields}
-use Rattle.maps.specs.declared.Field.{Field}
-use mathlib.Core.List.{List}
 use Rattle.lent.proofs.LentLaws.{fields-take}
-use Rattle.lent.specs.Table.{fieldsFrom}
 use borrow.Author.Needs.{needs}
 use Rattle.lent.proofs.is_good.Statement.{statement}
 use Rattle.lent.proofs.is_good.Tie as tie
-use borrow.Author.Needs.{needs}
-use native.Mathlib.Omega.{arith}
-use mathlib.Core.Path.{_≡_, refl, sym, ap, _∙_}
-use mathlib.Core.Bool.{true, false}
-use Prim.Native.Nat.{ℕ, suc, _+_, _-_, _≤_, _<_}
-use lib.ListN.{length, getD, take, drop}
+use mathlib.Core.Path.{sym, ap, _∙_}
 
 good-rooms-requires : tie.Need-good-rooms-requires
 good-rooms-requires c κs = search needs

@@ -1,5 +1,5 @@
 -- `lent::live_table` meets its contract. Assumes nothing.
-use lib.ListN.{replicate}
+use lib.ListN.{replicate, length}
 use lib.Seq.{paste, paste-zero}
 use Rattle.maps.specs.Places.{noField}
 use Rattle.lent.specs.Table.{tableOf}
@@ -8,10 +8,8 @@ use Rattle.lent.proofs.live_table.Statement.{statement}
 use Rattle.lent.proofs.live_table.Tie as tie
 use borrow.Author.Needs.{needs}
 use native.Mathlib.Omega.{arith}
-use mathlib.Core.Path.{_≡_, refl, sym, ap, _∙_}
-use mathlib.Core.Bool.{true, false}
-use Prim.Native.Nat.{ℕ, suc, _+_, _-_, _≤_, _<_}
-use lib.ListN.{length, getD, take, drop}
+use mathlib.Core.Path.{_≡_, refl}
+use Prim.Native.Nat.{_-_, _≤_, _<_}
 
 abbrev Inv-loop : tie.InvT-loop
 Inv-loop t n table₀ i₀ table i = (i ≤ n) × (length table ≡ 256) × (table ≡ paste (replicate 256 noField) 0 (tableOf t) i)

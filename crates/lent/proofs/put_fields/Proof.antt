@@ -1,18 +1,17 @@
 -- `lent::put_fields` meets its contract. Assumes nothing.
-use lib.Seq.{paste, paste-zero, getD-take, length-take-le}
+use lib.Seq.{paste, paste-zero, getD-take}
 use Rattle.maps.specs.Places.{noField}
 use Rattle.maps.specs.Good.{Fit}
-use Rattle.maps.proofs.FitLaws.{all-get}
+use Rattle.maps.proofs.FitLaws.{fit-get}
 use Rattle.lent.specs.Table.{tableOf}
-use Rattle.lent.proofs.LentLaws.{fields-length, field-length, in-step, in-end}
+use Rattle.lent.proofs.LentLaws.{fields-length, in-step, in-end}
 use Rattle.lent.proofs.put_fields.Statement.{statement}
 use Rattle.lent.proofs.put_fields.Tie as tie
 use borrow.Author.Needs.{needs}
 use native.Mathlib.Omega.{arith}
-use mathlib.Core.Path.{_≡_, refl, sym, ap, _∙_}
-use mathlib.Core.Bool.{true, false}
-use Prim.Native.Nat.{ℕ, suc, _+_, _-_, _≤_, _<_}
-use lib.ListN.{length, getD, take, drop}
+use mathlib.Core.Path.{_≡_, ap, _∙_}
+use Prim.Native.Nat.{_-_, _≤_, _<_}
+use lib.ListN.{length, getD}
 
 abbrev Inv-loop : tie.InvT-loop
 Inv-loop n t₀ table i₀ t i = (i ≤ n) × (length t ≡ 1024) × (tableOf t ≡ paste (tableOf t₀) 0 table i)
@@ -34,8 +33,7 @@ put-field-requires c κs =
     let z = c .before .before .before .before .before in
     let i = c .before .before .before .loop .i in
     let h : i < 256 = omega arith in
-    let k : i < length (take (z .args .n) (z .args .t1)) = rw (length-take-le (z .args .n) (z .args .t1) (omega arith)) (omega arith) in
-    let w : Fit 65536 65536 (getD (z .args .t1) i noField) = rw (getD-take (z .args .n) (z .args .t1) i noField (omega arith)) at (all-get i noField k (z .pre .2)) in
+    let w : Fit 65536 65536 (getD (z .args .t1) i noField) = rw (getD-take (z .args .n) (z .args .t1) i noField (omega arith)) at (fit-get (z .pre .2) i) in
     (h, c .before .before .before .loop .inv .1, w)
 
 add-i : tie.Need-add-i Inv-loop μ-loop
@@ -49,8 +47,7 @@ loop-again c =
     let z = c .before .before .before .before .before .before .before .before in
     let l = c .before .before .before .before .before .before .loop in
     let h : l .i < 256 = omega arith in
-    let k : l .i < length (take (z .args .n) (z .args .t1)) = rw (length-take-le (z .args .n) (z .args .t1) (omega arith)) (omega arith) in
-    let w : Fit 65536 65536 (getD (z .args .t1) (l .i) noField) = rw (getD-take (z .args .n) (z .args .t1) (l .i) noField (omega arith)) at (all-get (l .i) noField k (z .pre .2)) in
+    let w : Fit 65536 65536 (getD (z .args .t1) (l .i) noField) = rw (getD-take (z .args .n) (z .args .t1) (l .i) noField (omega arith)) at (fit-get (z .pre .2) (l .i)) in
     (search needs, search needs, ap tableOf (c .before .before .put-field .ensures) ∙ in-step (tableOf (z .args .t .now)) (z .args .t1) (omega arith) (l .t) (l .i) h (l .inv .1) w (fields-length (z .args .t .now) 0 256) (l .inv .2))
 
 same-length : tie.Need-same-length Inv-loop μ-loop

@@ -2,11 +2,6 @@
 use borrow.Author.Needs.{needs}
 use Rattle.lent.proofs.tables.field_at.Statement.{statement}
 use Rattle.lent.proofs.tables.field_at.Tie as tie
-use native.Mathlib.Omega.{arith}
-use mathlib.Core.Path.{_≡_, refl, sym, ap, _∙_}
-use mathlib.Core.Bool.{true, false}
-use Prim.Native.Nat.{ℕ, suc, _+_, _-_, _≤_, _<_}
-use lib.ListN.{length, getD, take, drop}
 
 mul-place-at : tie.Need-mul-place-at
 mul-place-at c = search needs

@@ -11,9 +11,7 @@ use Rattle.lent.proofs.tables.find.Tie as tie
 use borrow.Author.Needs.{needs}
 use native.Mathlib.Omega.{arith}
 use mathlib.Core.Path.{_≡_, refl, sym, ap, _∙_}
-use mathlib.Core.Bool.{true, false}
-use Prim.Native.Nat.{ℕ, suc, _+_, _-_, _≤_, _<_}
-use lib.ListN.{length, getD, take, drop}
+use Prim.Native.Nat.{ℕ, _-_, _<_}
 
 abbrev Inv-loop : tie.InvT-loop
 Inv-loop t n block store name from i₀ i = (seeking (named block store name) from (fieldsFrom t from (n - from)) ≡ seeking (named block store name) i (fieldsFrom t i (n - i)))

@@ -1,14 +1,9 @@
 -- `lent::tables::from_of` meets its contract. Assumes nothing.
-use Rattle.lent.specs.Table.{storeMark, fromOf}
 use Rattle.lent.proofs.LentLaws.{from-small}
 use borrow.Author.Needs.{needs}
 use Rattle.lent.proofs.tables.from_of.Statement.{statement}
 use Rattle.lent.proofs.tables.from_of.Tie as tie
 use native.Mathlib.Omega.{arith}
-use mathlib.Core.Path.{_≡_, refl, sym, ap, _∙_}
-use mathlib.Core.Bool.{true, false}
-use Prim.Native.Nat.{ℕ, suc, _+_, _-_, _≤_, _<_}
-use lib.ListN.{length, getD, take, drop}
 
 enum-known-p : tie.Need-enum-known-p
 enum-known-p c = search needs

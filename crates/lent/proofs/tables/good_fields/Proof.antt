@@ -1,17 +1,14 @@
 -- `lent::tables::good_fields` meets its contract. Assumes nothing.
 use Rattle.maps.proofs.GoodLaws.{and-go, and-stop}
 use Rattle.maps.specs.Good.{goodField, goodFields}
-use Rattle.maps.specs.declared.Field.{Field}
 use Rattle.lent.specs.Table.{fieldsFrom}
 use Rattle.lent.proofs.LentLaws.{good-next, good-end}
 use Rattle.lent.proofs.tables.good_fields.Statement.{statement}
 use Rattle.lent.proofs.tables.good_fields.Tie as tie
 use borrow.Author.Needs.{needs}
 use native.Mathlib.Omega.{arith}
-use mathlib.Core.Path.{_≡_, refl, sym, ap, _∙_}
-use mathlib.Core.Bool.{true, false}
-use Prim.Native.Nat.{ℕ, suc, _+_, _-_, _≤_, _<_}
-use lib.ListN.{length, getD, take, drop}
+use mathlib.Core.Path.{_≡_, sym, ap, _∙_}
+use Prim.Native.Nat.{ℕ, _-_, _<_}
 
 abbrev Inv-loop : tie.InvT-loop
 Inv-loop t n count mark i₀ i = (goodFields count mark (fieldsFrom t 0 n) ≡ goodFields count mark (fieldsFrom t i (n - i)))

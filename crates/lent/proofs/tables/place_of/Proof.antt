@@ -1,12 +1,10 @@
 -- `lent::tables::place_of` meets its contract. Assumes nothing.
 use mathlib.Core.Path.{sym}
-use Prim.Native.Nat.{_-_}
 use borrow.Author.Tests.{lt-ltb, le-ltb}
 use Rattle.leaves.proofs.ChoiceLaws.{if-true, if-false}
 use Rattle.lent.specs.Table.{placeOf}
 use Rattle.lent.proofs.tables.place_of.Statement.{statement}
 use Rattle.lent.proofs.tables.place_of.Tie as tie
-use borrow.Author.Needs.{needs}
 
 returns : tie.Need-returns
 unfolding placeOf

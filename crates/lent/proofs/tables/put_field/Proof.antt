@@ -1,15 +1,12 @@
 -- `lent::tables::put_field` meets its contract. Assumes nothing.
 use mathlib.Core.List.{List}
-use Prim.Native.Nat.{_*_}
+use Prim.Native.Nat.{_*_, ℕ, _+_}
 use Rattle.lent.specs.Table.{placePut}
 use borrow.Author.Needs.{needs}
 use Rattle.lent.proofs.tables.put_field.Statement.{statement}
 use Rattle.lent.proofs.tables.put_field.Tie as tie
 use native.Mathlib.Omega.{arith}
-use mathlib.Core.Path.{_≡_, refl, sym, ap, _∙_}
-use mathlib.Core.Bool.{true, false}
-use Prim.Native.Nat.{ℕ, suc, _+_, _-_, _≤_, _<_}
-use lib.ListN.{length, getD, take, drop}
+use mathlib.Core.Path.{ap, _∙_}
 
 mul-put-place : tie.Need-mul-put-place
 mul-put-place c = search needs
@@ -24,7 +21,7 @@ add-put-place : tie.Need-add-put-place
 add-put-place c = search needs
 
 put-place-requires-2 : tie.Need-put-place-requires-2
-put-place-requires-2 c κs = (omega (arith, c .before .before .before .put-place .kept .0), c .before .before .before .before .before .before .pre .2 .value)
+put-place-requires-2 c κs = (omega (arith, c .before .before .before .put-place .kept .0), search needs)
 
 same-length : tie.Need-same-length
 same-length c = search needs

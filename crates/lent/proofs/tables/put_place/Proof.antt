@@ -2,11 +2,6 @@
 use borrow.Author.Needs.{needs}
 use Rattle.lent.proofs.tables.put_place.Statement.{statement}
 use Rattle.lent.proofs.tables.put_place.Tie as tie
-use native.Mathlib.Omega.{arith}
-use mathlib.Core.Path.{_≡_, refl, sym, ap, _∙_}
-use mathlib.Core.Bool.{true, false}
-use Prim.Native.Nat.{ℕ, suc, _+_, _-_, _≤_, _<_}
-use lib.ListN.{length, getD, take, drop}
 
 from-of-requires : tie.Need-from-of-requires
 from-of-requires c κs = search needs
