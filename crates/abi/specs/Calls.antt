@@ -44,10 +44,11 @@ use Rattle.walker.specs.Walk.{starting, walking, ending}
 use Rattle.walker.specs.declared.Step.{Step}
 use Rattle.walker.specs.declared.Step.the-variants.{More, Record, Body, End, Refused as Unwalked}
 use Rattle.walker.specs.declared.Walked.{Walked}
+use Rattle.walker.specs.declared.Walker.{Walker}
 use Rattle.maps.specs.Heads.{headOf as headIn, unmadeHead}
 use Rattle.lent.specs.Table.{mapIn, numbersOf}
 use Rattle.lent.specs.Numbers.{headNumbers, soundMap, longMap, mapOf}
-use Rattle.lent_walker.specs.Trail.{trailNumbers, soundTrail, walkerOf}
+use Rattle.trails.specs.Trail.{staged, stageOf, soundTrail}
 use Rattle.maps.specs.Answers.{told as checkedOf}
 use Rattle.reader.specs.Answers.{told as answerOf}
 use Rattle.edits.specs.Answers.{told as editOf}
@@ -166,6 +167,13 @@ pub record Goes (o : Went) (r : ℕ) (z w n t b s : List ℕ) : Type 0 where
   pub out : Gave (o .out) r z n t b s
   pub trail : w ≡ o .trail
 
+abbrev pub trailIn : Walker → List ℕ
+trailIn w = w .position ∷ w .rest ∷ w .start ∷ staged (w .stage) ∷ []
+
+-- the walker that a trail and a map's numbers are
+abbrev pub walkerOf : List ℕ → List ℕ → List ℕ → Walker
+walkerOf w n t = record { map = mapOf n t; position = getD w 0 0; rest = getD w 1 0; stage = stageOf (getD w 3 0); start = getD w 2 0 }
+
 abbrev pub walkedAnswer : Walked → ℕ
 walkedAnswer r = stepOf (r .step)
 
@@ -184,7 +192,7 @@ abbrev pub walkedNumbers : List ℕ → Walked → List ℕ
 walkedNumbers r w = w .taken ∷ recordNumbers (w .step) r
 
 abbrev pub wentOf : (Walked → List ℕ) → Given Walked → Went
-wentOf numbers g = record { out = outOf walkedAnswer numbers walkedMap g; trail = trailNumbers (g .result .walker) }
+wentOf numbers g = record { out = outOf walkedAnswer numbers walkedMap g; trail = trailIn (g .result .walker) }
 
 abbrev pub lost : List ℕ → List ℕ → List ℕ → List ℕ → List ℕ → List ℕ → Went
 lost numbers w n t b s = record { out = damaged numbers n t b s; trail = w }
@@ -209,7 +217,7 @@ startedOut w n t g =
           block = g .block;
           store = g .store;
         };
-      trail = started (g .result .step) w (trailNumbers (g .result .walker));
+      trail = started (g .result .step) w (trailIn (g .result .walker));
     }
 
 unfoldable pub walkerGives : List ℕ → List ℕ → List ℕ → ℕ → ℕ → List ℕ → List ℕ → Went

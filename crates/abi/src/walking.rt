@@ -1,7 +1,6 @@
 // Start, walk and end.
 use crate::answers;
 use lent::heads;
-use lent_walker::trails;
 use walker::Step;
 ghost use mathlib.Core.Path.{_≡_};
 ghost use mathlib.Core.List.{[], _∷_};
