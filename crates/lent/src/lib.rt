@@ -10,12 +10,17 @@ use maps::Head;
 use maps::HeaderMap;
 use maps::Place;
 ghost use mathlib.Core.Path.{_≡_};
+ghost use mathlib.Core.Bool.{true};
 ghost use Prim.Native.Nat.{_≤_, min};
 ghost use lib.ListN.{length, take, replicate};
 ghost use Rattle.leaves.specs.Paste.{lay};
 ghost use Rattle.maps.specs.Places.{noField};
 ghost use Rattle.maps.specs.Good.{FitAll, good, checked};
 ghost use Rattle.lent.specs.Table.{fieldsFrom, tableOf, mapIn, liveIn};
+ghost use Rattle.lent.specs.Numbers.{headOf, soundMap, longMap};
+
+// How many numbers a table is.
+pub const TABLE: usize = 1024;
 
 // 3 is not given: the map is good.
 fn is_good(h: Head, t: &[u32]) -> bool
@@ -127,4 +132,33 @@ pub fn put_fields(table: [Field; 256], n: usize, t: &mut [u32])
         tables::put_field(t, i, f);
         i += 1;
     }
+}
+
+// Whether numbers are a map's.
+pub fn is_sound(n: &[u64], t: &[u32]) -> bool
+    ensures { λ r. ⌜ r ≡ soundMap (now (n .entry)) (now (t .entry)) ⌝ }
+{
+    if heads::is_sound(n) {
+        return t.len() == TABLE;
+    }
+    false
+}
+
+// Whether numbers are as many as a map's.
+pub fn is_long(n: &[u64], t: &[u32]) -> bool
+    ensures { λ r. ⌜ r ≡ longMap (now (n .entry)) (now (t .entry)) ⌝ }
+{
+    if n.len() == heads::HEAD {
+        return t.len() == TABLE;
+    }
+    false
+}
+
+// The map that numbers are, by value, with the fields that count alone.
+pub fn live_at(n: &[u64], t: &[u32]) -> HeaderMap
+    requires { ⌜ soundMap (now n) (now t) ≡ true ⌝ }
+    ensures { λ r. ⌜ r ≡ liveIn (now (t .entry)) (headOf (now (n .entry))) ⌝ }
+{
+    let h = heads::head_at(n);
+    live_map(h, t)
 }
