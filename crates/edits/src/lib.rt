@@ -30,6 +30,7 @@ pub struct Edited {
     pub map: HeaderMap,
 }
 
+// Whether a map is edited once k of its n fields stay.
 pub fn changed(e: bool, k: usize, n: usize) -> bool
     ensures { λ r. ⌜ r ≡ (e || ltb k n) ⌝ }
 {
