@@ -1,4 +1,4 @@
-// The reader over a map whose table is lent in numbers: begin, feed and clear, no call of which copies the table.
+// The reader over a map whose table is lent in numbers: begin, feed, finish and clear, no call of which copies the table.
 use folds::Change;
 use leaves::refusals::Refusal;
 use lent::tables;
@@ -15,7 +15,7 @@ ghost use Rattle.maps.specs.Good.{Ready};
 ghost use Rattle.maps.specs.Maps.{Is};
 ghost use Rattle.maps.specs.Heads.{under};
 ghost use Rattle.maps.specs.declared.Field.{Field};
-ghost use Rattle.reader.specs.Calls.{fedFrom, feeding, clearing, beginning};
+ghost use Rattle.reader.specs.Calls.{fedFrom, finishedFrom, feeding, finishing, clearing, beginning};
 ghost use Rattle.lent.specs.Table.{tableOf, mapIn};
 ghost use Rattle.lent_reader.specs.Lent.{fedIn, madeIn};
 
@@ -147,6 +147,98 @@ pub fn feed(h: Head, t: &mut [u32], block: &mut [u8], store: &mut [u8], piece: &
     let ready = maps::is_reading(phase);
     match lent::check(h, t, ready, block.len(), store.len()) {
         Checked::Fine => feed_lines(h, t, block, store, piece),
+        Checked::Refused(e) => FedHead {
+            head: h,
+            taken: 0,
+            answer: Answer::Refused(e),
+        },
+    }
+}
+
+// Handles the leftover line of a good map.
+fn finish_line(h: Head, t: &mut [u32], block: &[u8], store: &mut [u8]) -> FedHead
+    requires { ⌜ (length (now t) ≡ 1024) × Ready (mapIn (now t) h) (now block) (now store) ⌝ }
+    ensures { λ r. ⌜ Is (finishedFrom (mapIn (now (t .entry)) h) (now (block .entry)) (now (store .entry))) (fedIn (now (t .exit)) r) (now (block .entry)) (now (store .exit)) ⌝ }
+{
+    let room = h.room;
+    let awaits = h.awaits;
+    let count = h.count;
+    let line = h.line;
+    let n = h.fields;
+    let mark = h.mark;
+    if line < count {
+        let last = reader::last_of(n);
+        let f = tables::field_at(t, last);
+        let change = folds::rule_four(block, store, line, count, awaits, f, n, room, mark);
+        match change {
+            Change::Nothing => {
+                let head = reader::head_after(Answer::Input, Head { line: count, ..h });
+                FedHead {
+                    head,
+                    taken: 0,
+                    answer: Answer::Input,
+                }
+            }
+            Change::Status(p) => {
+                let head = reader::head_after(
+                    Answer::Input,
+                    Head {
+                        line: count,
+                        status: Status::At(p),
+                        ..h
+                    },
+                );
+                FedHead {
+                    head,
+                    taken: 0,
+                    answer: Answer::Input,
+                }
+            }
+            Change::Put(slot, x, to) => {
+                tables::put_field(t, slot, x);
+                let head = reader::head_after(
+                    Answer::Input,
+                    Head {
+                        line: count,
+                        mark: to,
+                        fields: slot + 1,
+                        ..h
+                    },
+                );
+                FedHead {
+                    head,
+                    taken: 0,
+                    answer: Answer::Input,
+                }
+            }
+            Change::Refused(e) => {
+                let head = reader::head_after(Answer::Refused(e), h);
+                FedHead {
+                    head,
+                    taken: 0,
+                    answer: Answer::Refused(e),
+                }
+            }
+        }
+    } else {
+        let head = reader::head_after(Answer::Input, h);
+        FedHead {
+            head,
+            taken: 0,
+            answer: Answer::Input,
+        }
+    }
+}
+
+// Tells a map that its input has ended.
+pub fn finish(h: Head, t: &mut [u32], block: &[u8], store: &mut [u8]) -> FedHead
+    requires { ⌜ length (now t) ≡ 1024 ⌝ }
+    ensures { λ r. ⌜ Is (finishing (mapIn (now (t .entry)) h) (now (block .entry)) (now (store .entry))) (fedIn (now (t .exit)) r) (now (block .entry)) (now (store .exit)) ⌝ }
+{
+    let phase = h.phase;
+    let ready = maps::is_reading(phase);
+    match lent::check(h, t, ready, block.len(), store.len()) {
+        Checked::Fine => finish_line(h, t, block, store),
         Checked::Refused(e) => FedHead {
             head: h,
             taken: 0,
