@@ -11,8 +11,7 @@ use Rattle.lent_writes.proofs.put_fields.Statement.{statement}
 use Rattle.lent_writes.proofs.put_fields.Tie as tie
 use native.Mathlib.Omega.{arith}
 use mathlib.Core.List.{map}
-use Prim.Native.Nat.{_+_, _-_, _≤_, _<_}
-use lib.ListN.{length}
+use Prim.Native.Nat.{_-_, _≤_, _<_}
 
 abbrev Inv-loop : tie.InvT-loop
 Inv-loop out₀ at t n block store k₀ i₀ out k i = (i ≤ n) × Writing out₀ at (pairLines (map (pairAt block store) (fieldsFrom t 0 n))) (pairLines (map (pairAt block store) (fieldsFrom t i (n - i)))) out k

@@ -3,7 +3,6 @@ use Rattle.writes.proofs.WriteLaws.{give-short, give-all}
 use borrow.Author.Needs.{needs}
 use Rattle.writes.proofs.give.Statement.{statement}
 use Rattle.writes.proofs.give.Tie as tie
-use native.Mathlib.Omega.{arith}
 use Prim.Native.Nat.{_-_}
 
 returns : tie.Need-returns
