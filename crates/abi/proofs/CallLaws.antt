@@ -1,34 +1,37 @@
 -- What the exported calls give, by what the calls below give. Assumes nothing.
 use mathlib.Core.Path.{_≡_, refl, sym, ap, _∙_}
-use mathlib.Core.Bool.{Bool, true, false, _&&_}
+use mathlib.Core.Bool.{Bool, true, false}
 use mathlib.Core.List.{List, [], _∷_}
-use mathlib.Core.Option.{Option, none, some}
-use Prim.Native.Nat.{ℕ, _-_}
+use mathlib.Core.Option.{Option}
+use Prim.Native.Nat.{ℕ, zero, suc, _+_, _-_, _≤_, _<_}
 use native.Mathlib.Omega.{arith}
-use lib.ListN.{length, drop}
+use lib.Dec.{eqb}
+use borrow.Author.Tests.{eqb-true}
+use lib.ListN.{length, getD, drop}
 use Rattle.leaves.specs.Choice.{if_then_else_}
-use Rattle.leaves.proofs.ChoiceLaws.{if-true, if-false, clash}
-use Rattle.leaves.proofs.RefusalLaws.{number-positive}
-use Rattle.leaves.specs.Refusals.{number, refusal}
+use Rattle.leaves.proofs.ChoiceLaws.{by-if, if-true, if-false, and-left, clash}
+use Rattle.leaves.specs.Refusals.{number}
 use Rattle.leaves.specs.declared.refusals.Refusal.{Refusal}
 use Rattle.leaves.specs.declared.refusals.Refusal.the-variants.{BadMap}
 use Rattle.maps.specs.Maps.{Given, Is}
 use Rattle.maps.specs.Heads.{headOf as headIn}
-use Rattle.maps.specs.Good.{live, checkedDone, unless}
-use Rattle.maps.proofs.GoodLaws.{goes-on, refused-by}
-use Rattle.maps.specs.declared.Checked.{Checked}
+use Rattle.maps.specs.Good.{live, checkedDone}
+use Rattle.maps.proofs.GoodLaws.{goes-on, refused-by, ready-of}
 use Rattle.maps.specs.declared.Checked.the-variants.{Fine, Refused as Unchecked}
 use Rattle.maps.specs.declared.Head.{Head}
 use Rattle.maps.specs.declared.HeaderMap.{HeaderMap}
 use Rattle.maps.specs.declared.Place.{Place}
-use Rattle.lookups.specs.Lookups.{named, seeking, finding}
+use Rattle.maps.specs.declared.Field.{Field}
+use Rattle.lookups.specs.Lookups.{named, seeking, finding, slotOf, shownStatus}
+use Rattle.lookups.specs.declared.Slot.the-variants.{Nothing, At as Holds}
+use Rattle.lookups.proofs.HandLaws.{slot-fine, slot-wrong, status-fine}
 use Rattle.lookups.specs.declared.Found.{Found}
 use Rattle.lookups.specs.declared.Found.the-variants.{At, Missing, Refused as Unfound}
 use Rattle.reader.specs.declared.Made.{Made}
-use Rattle.lent.specs.Table.{mapIn, tableOf, fieldsFrom, numbersOf}
-use Rattle.lent.specs.Numbers.{headNumbers, soundMap, mapOf}
-use Rattle.lent.proofs.LentLaws.{numbers-again}
-use Rattle.abi.specs.Calls.{Out, Gave, damaged, outOf, begunOut, openFor, fieldsTell, twoTell, Lies, noneLies, handedLies, lookLies, Sight, Sees, seenAt, findSees, Told, Tells, tellsDamaged, Put, Puts, putsDamaged}
+use Rattle.lent.specs.Table.{mapIn, fieldAt, fieldsFrom, numbersOf}
+use Rattle.lent.specs.Numbers.{headNumbers, statusOf, soundMap, longMap, mapOf}
+use Rattle.lent.proofs.LentLaws.{numbers-again, fields-at, fields-take, drop-fields}
+use Rattle.abi.specs.Calls.{Out, Gave, damaged, outOf, begunOut, openFor, fieldsTell, twoTell, Lies, placeLies, noneLies, handedLies, lookLies, Sight, Sees, Below, seenAt, findSees, Told, Tells, tellsDamaged, Put, Puts, putsDamaged}
 
 -- a call over the numbers themselves: those at its end are the map's, and no others are
 module _ {A : Type 0} (answer : A → ℕ) (numbers : A → List ℕ) (map : A → HeaderMap) where
@@ -94,11 +97,11 @@ module _ (n t b s : List ℕ) where
   -- how many fields there are
   pub fields-fine : (k r : ℕ) → Fine ≡ openFor n t b s → r ≡ 0 → (k′ : ℕ) → k′ ≡ mapOf n t .fields → Tells (fieldsTell n t k b s) r k′
   unfolding fieldsTell
-  fields-fine k r f e k′ g = rw (goes-on (λ (x : Refusal). record { answer = number x; number = k }) (record { answer = 0; number = mapOf n t .fields }) (openFor n t b s) f) (record { answer = e; number = g })
+  fields-fine k r f e k′ g = rw (goes-on {A = Told} (λ (x : Refusal). record { answer = number x; number = k }) (record { answer = 0; number = mapOf n t .fields }) (openFor n t b s) f) (record { answer = e; number = g })
 
   pub fields-refused : (k r : ℕ) (x : Refusal) → Unchecked x ≡ openFor n t b s → r ≡ number x → Tells (fieldsTell n t k b s) r k
   unfolding fieldsTell
-  fields-refused k r x f e = rw (refused-by (λ (y : Refusal). record { answer = number y; number = k }) (record { answer = 0; number = mapOf n t .fields }) (openFor n t b s) x f) (record { answer = e; number = refl })
+  fields-refused k r x f e = rw (refused-by {A = Told} (λ (y : Refusal). record { answer = number y; number = k }) (record { answer = 0; number = mapOf n t .fields }) (openFor n t b s) x f) (record { answer = e; number = refl })
 
   -- places that are handed out
   module _ (f e : ℕ) (p : Option Place) where
@@ -166,3 +169,53 @@ put-damaged o k d c e = rw (if-false o (putsDamaged k d) e) (record { answer = r
 pub put-sound : (o : Put) (k : ℕ) (d : List ℕ) (r k′ : ℕ) (d′ : List ℕ) (c : Bool) → c ≡ true → r ≡ o .answer → k′ ≡ o .number → d′ ≡ o .out
     → Puts (if c then o else putsDamaged k d) r k′ d′
 put-sound o k d r k′ d′ c e p q u = rw (if-true o (putsDamaged k d) e) (record { answer = p; number = q; out = u })
+
+-- a field that a search among the first of a table finds is one of them
+below-by : (p : Field → Bool) (t : List ℕ) (n k i : ℕ) → k ≡ n - i → n ≤ 256 → Below (seeking p i (fieldsFrom t i k))
+unfolding seeking fieldsFrom
+below-by p t n zero i e h = tt
+below-by p t n (suc k) i e h =
+    let l : i < 256 = omega (arith, e, h) in
+    let d : k ≡ n - (i + 1) = omega (arith, e) in
+    by-if Below (p (fieldAt t i)) (At i) (seeking p (i + 1) (fieldsFrom t (i + 1) k)) (λ _. l) (λ _. below-by p t n k (i + 1) d h)
+
+pub seek-below : (p : Field → Bool) (t : List ℕ) (n i : ℕ) → n ≤ 256 → Below (seeking p i (fieldsFrom t i (n - i)))
+seek-below p t n i h = below-by p t n (n - i) i refl h
+
+-- the field that was found
+pub found-few : (found : Found) (i : ℕ) → found ≡ At i → Below found → i < 256
+found-few found i q b = rw q at b
+
+module _ (t : List ℕ) (h : Head) (k f e : ℕ) (found : Found) where
+  pub seen-found : (i : ℕ) (x : Field) (r f′ e′ : ℕ) → found ≡ At i → Below found → x ≡ fieldAt t i → Lies (placeLies (x .value)) r f′ e′ → Sees (seenAt (mapIn t h) k f e found) r i f′ e′
+  seen-found i x r f′ e′ q b w l =
+      let v : Lies (placeLies (fieldAt t i .value)) r f′ e′ = rw w at l in
+      rw (q, fields-at t 256 i (found-few found i q b)) (record { number = refl; place = v })
+
+  pub seen-missing : found ≡ Missing → Sees (seenAt (mapIn t h) k f e found) 68 k f e
+  seen-missing q = rw q (record { number = refl; place = record { answer = refl; from = refl; to = refl } })
+
+  pub seen-refused : (x : Refusal) (r : ℕ) → found ≡ Unfound x → r ≡ number x → Sees (seenAt (mapIn t h) k f e found) r k f e
+  seen-refused x r q d = rw q (record { number = refl; place = record { answer = d; from = refl; to = refl } })
+
+-- a map whose first checks passed: its fields and its status
+module _ (n t b s : List ℕ) (o : Fine ≡ openFor n t b s) where
+  pub few : getD n 5 0 ≤ 256
+  few = ready-of _ (mapOf n t) b s (opens n t b s o .fine) .few
+
+  pub slot-there : (i : ℕ) → i < getD n 5 0 → slotOf (mapOf n t) b s i ≡ Holds (fieldAt t i)
+  slot-there i h = let l : i < 256 = omega (arith, h, few) in slot-fine (mapOf n t) b s i (opens n t b s o .fine) h ∙ ap Holds (fields-at t 256 i l)
+
+  pub slot-none : (i : ℕ) → getD n 5 0 ≤ i → slotOf (mapOf n t) b s i ≡ Nothing
+  slot-none i h = slot-wrong (mapOf n t) b s i (opens n t b s o .fine) h
+
+  pub status-there : shownStatus (mapOf n t) b s ≡ statusOf (getD n 6 0) (getD n 7 0) (getD n 8 0)
+  status-there = status-fine (mapOf n t) b s (opens n t b s o .fine)
+
+  pub sought : (p : Field → Bool) (from : ℕ) → seeking p from (fieldsFrom t from (getD n 5 0 - from)) ≡ seeking p from (drop from (live (mapOf n t)))
+  sought p from = ap (seeking p from) (sym (ap (drop from) (fields-take t 0 256 (getD n 5 0) few) ∙ drop-fields t (getD n 5 0) from))
+
+-- as many numbers as a map's
+pub long-head : (n t : List ℕ) → longMap n t ≡ true → length n ≡ 13
+unfolding longMap
+long-head n t h = eqb-true _ _ (and-left (eqb (length n) 13) _ h)
