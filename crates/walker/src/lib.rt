@@ -1,5 +1,5 @@
 // The record walker: header, body, trailer, again.
-pub mod trails;
+pub mod turns;
 
 use leaves::refusals::Refusal;
 use maps::Checked;
@@ -167,7 +167,7 @@ fn under(m: HeaderMap, h: Head) -> HeaderMap
 fn kept_map(m: HeaderMap, kept: Kept) -> HeaderMap
     ensures { λ r. ⌜ r ≡ keptMap kept m ⌝ }
 {
-    let h = trails::kept_head(head_of(m), kept);
+    let h = turns::kept_head(head_of(m), kept);
     under(m, h)
 }
 
@@ -199,7 +199,7 @@ fn check_map(m: HeaderMap, stage: Stage, block: usize, store: usize) -> Checked
     ensures { λ r. ⌜ r ≡ checked (readyAt stage (m .phase)) m block store ⌝ }
 {
     let phase = m.phase;
-    let ready = trails::ready_at(stage, phase);
+    let ready = turns::ready_at(stage, phase);
     maps::check(m, ready, block, store)
 }
 
@@ -280,7 +280,7 @@ fn read_header(
         start,
         ..t
     };
-    let r = trails::behind_header(h, trail, taken, k, piece.len());
+    let r = turns::behind_header(h, trail, taken, k, piece.len());
     with_map(fed.map, r)
 }
 
@@ -291,7 +291,7 @@ pub fn walk(w: Walker, block: &mut [u8], store: &mut [u8], piece: &[u8]) -> Walk
     let t = trail_of(w);
     let stage = t.stage;
     let c = check_map(w.map, stage, block.len(), store.len());
-    let turn = trails::turn(t, c, piece);
+    let turn = turns::turn(t, c, piece);
     match turn {
         Turn::Stays(r) => with_map(w.map, r),
         Turn::Reads(kept, start, k) => {
@@ -308,6 +308,6 @@ pub fn end(w: Walker, block: &[u8], store: &[u8]) -> Walked
     let t = trail_of(w);
     let stage = t.stage;
     let c = check_map(w.map, stage, block.len(), store.len());
-    let r = trails::end_trail(t, c);
+    let r = turns::end_trail(t, c);
     with_map(w.map, r)
 }
