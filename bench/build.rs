@@ -1,8 +1,10 @@
-// Links the library that `rt staticlib speed` writes.
+// Links the libraries that `rt staticlib speed` and `rt staticlib abi` write.
 fn main() {
-    let lib = std::env::var("SPEED_LIB").expect("SPEED_LIB names the folder of libspeed.a");
-    println!("cargo:rustc-link-search=native={lib}");
-    println!("cargo:rustc-link-lib=static=speed");
-    println!("cargo:rerun-if-env-changed=SPEED_LIB");
-    println!("cargo:rerun-if-changed={lib}/libspeed.a");
+    let folder = std::env::var("STATICLIB").expect("STATICLIB names the folder of libspeed.a and libabi.a");
+    println!("cargo:rustc-link-search=native={folder}");
+    println!("cargo:rerun-if-env-changed=STATICLIB");
+    for name in ["speed", "abi"] {
+        println!("cargo:rustc-link-lib=static={name}");
+        println!("cargo:rerun-if-changed={folder}/lib{name}.a");
+    }
 }

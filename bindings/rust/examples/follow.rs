@@ -1,7 +1,7 @@
 //! Follows a download that arrives in pieces and breaks off, and resumes it where the answer to the second request says that its body may
 //! be appended; where the ETag is another one, the two bodies are kept apart.
-use bisquecrow::{resume, Flags, Map, Progress, Refusal, Verdict, DEFAULT_LIMIT};
-use std::io::{self, Read};
+use bisquecrow::{resume, Flags, Map, Refusal, Verdict};
+use std::io::{self, BufRead, BufReader, Read};
 
 /// An answer as it comes over a connection: a few octets at a time, until it ends or breaks off.
 struct Connection<'a> {
@@ -20,33 +20,20 @@ impl Read for Connection<'_> {
 
 /// An answer's header, and what came of its body.
 struct Answer {
-    map: Map,
+    header: Map,
     body: Vec<u8>,
 }
 
-fn receive(connection: &mut impl Read) -> Result<Answer, Box<dyn std::error::Error>> {
-    let mut map = Map::begin(DEFAULT_LIMIT, DEFAULT_LIMIT, Flags { status: true, quirks: false })?;
+fn receive(mut connection: impl BufRead) -> Result<Answer, bisquecrow::Error> {
+    let header = Map::read_from(&mut connection, Flags::STATUS)?;
     let mut body = Vec::new();
-    let mut buffer = [0; 512];
-    let mut ended = false;
-    loop {
-        let n = connection.read(&mut buffer)?;
-        if n == 0 {
-            return if ended { Ok(Answer { map, body }) } else { Err("the header broke off".into()) };
-        }
-        let mut piece = &buffer[..n];
-        if !ended {
-            let fed = map.feed(piece);
-            ended = fed.answer? == Progress::Ended;
-            piece = &piece[fed.taken..];
-        }
-        body.extend_from_slice(piece);
-    }
+    connection.read_to_end(&mut body)?;
+    Ok(Answer { header, body })
 }
 
 /// Appends the second body to the first if it may be.
 fn follow(first: &mut Answer, second: &Answer) -> Result<Verdict, Refusal> {
-    let verdict = resume(first.map.header(), second.map.header())?;
+    let verdict = resume(&first.header, &second.header)?;
     if verdict == Verdict::Append {
         first.body.extend_from_slice(&second.body);
     }
@@ -59,11 +46,11 @@ fn main() -> Result<(), Box<dyn std::error::Error>> {
     let other = b"HTTP/1.1 206 Partial Content\r\nETag: \"b\"\r\nContent-Range: bytes 6-10/11\r\n\r\nthere";
 
     for again in [&same[..], &other[..]] {
-        let mut kept = receive(&mut Connection { octets: broken, at_once: 7 })?;
-        let wanted = kept.map.header().content_length()?.unwrap_or(0);
+        let mut kept = receive(BufReader::new(Connection { octets: broken, at_once: 7 }))?;
+        let wanted = kept.header.content_length()?.unwrap_or(0);
         println!("{} of {} octets, then the connection broke off", kept.body.len(), wanted);
-        let next = receive(&mut Connection { octets: again, at_once: 5 })?;
-        println!("status {:?}", next.map.header().status_code()?);
+        let next = receive(BufReader::new(Connection { octets: again, at_once: 5 }))?;
+        println!("{:?}", next.header);
         match follow(&mut kept, &next)? {
             Verdict::Append => println!("appended: {}", String::from_utf8_lossy(&kept.body)),
             verdict => println!("kept apart ({verdict:?}): {}", String::from_utf8_lossy(&kept.body)),

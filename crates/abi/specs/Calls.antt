@@ -1,16 +1,17 @@
--- What each exported call gives, for every input: damaged octets are number 3 and stay. Assumes nothing.
+-- What each exported call gives, for every input: numbers that are no map's are number 3 and stay. Assumes nothing.
 use mathlib.Core.Path.{_≡_}
-use mathlib.Core.Bool.{Bool}
+use mathlib.Core.Bool.{Bool, _&&_}
 use mathlib.Core.List.{List, [], _∷_}
 use mathlib.Core.Option.{Option, none, some}
-use Prim.Native.Nat.{ℕ}
+use Prim.Native.Nat.{ℕ, _+_, _<_}
 use lib.Dec.{eqb}
-use lib.ListN.{length, set}
+use lib.ListN.{length, set, getD}
 use Rattle.leaves.specs.Choice.{if_then_else_}
-use Rattle.leaves.specs.Refusals.{number}
-use Rattle.leaves.specs.Numbers.{missing, yes, other, inTheBlock, inTheStore}
+use Rattle.leaves.specs.Refusals.{number, refusal}
+use Rattle.leaves.specs.Numbers.{done, missing, yes, other, inTheBlock, inTheStore}
 use Rattle.maps.specs.Good.{checkedDone, unless}
 use Rattle.maps.specs.Maps.{Given}
+use Rattle.maps.specs.Places.{at, inBlock, inStore, noField}
 use Rattle.maps.specs.declared.HeaderMap.{HeaderMap}
 use Rattle.maps.specs.declared.Place.{Place}
 use Rattle.maps.specs.declared.Place.the-variants.{Block, Store}
@@ -28,6 +29,7 @@ use Rattle.writes.specs.Written.{writing, rebuilding, Given as Writing}
 use Rattle.writes.specs.declared.Wrote.{Wrote}
 use Rattle.writes.specs.declared.Wrote.the-variants.{Count, Refused as Unwritten}
 use Rattle.codes.specs.Codes.{coding, lengthOf as lengthIn, kindOf as kindIn}
+use Rattle.codes.specs.Line.{reasonStart}
 use Rattle.codes.specs.declared.line.Code.{Code}
 use Rattle.codes.specs.declared.line.Code.the-variants.{Is as CodeIs, None as NoCode, Refused as Uncoded}
 use Rattle.codes.specs.declared.Length.{Length}
@@ -42,12 +44,14 @@ use Rattle.walker.specs.Walk.{starting, walking, ending}
 use Rattle.walker.specs.declared.Step.{Step}
 use Rattle.walker.specs.declared.Step.the-variants.{More, Record, Body, End, Refused as Unwalked}
 use Rattle.walker.specs.declared.Walked.{Walked}
-use Rattle.encoded.specs.Whole.{encoded, decoded, sound}
-use Rattle.encoded.specs.Standing.{encodedWalker, decodedWalker, soundWalker}
+use Rattle.walker.specs.declared.Walker.{Walker}
+use Rattle.maps.specs.Heads.{headOf as headIn, unmadeHead}
+use Rattle.lent.specs.Table.{mapIn, numbersOf}
+use Rattle.lent.specs.Numbers.{headNumbers, soundMap, longMap, mapOf}
+use Rattle.trails.specs.Trail.{staged, stageOf, soundTrail}
 use Rattle.maps.specs.Answers.{told as checkedOf}
 use Rattle.reader.specs.Answers.{told as answerOf}
 use Rattle.edits.specs.Answers.{told as editOf}
-use Rattle.lookups.specs.Answers.{told as foundOf}
 use Rattle.writes.specs.Answers.{told as wroteOf}
 use Rattle.equals.specs.Answers.{told as equalOf}
 use Rattle.tests.specs.Answers.{told as testOf}
@@ -59,28 +63,31 @@ use Rattle.resume.specs.Answers.{told as verdictOf}
 pub record Out : Type 0 where
   pub answer : ℕ
   pub numbers : List ℕ
-  pub map : List ℕ
+  pub head : List ℕ
+  pub table : List ℕ
   pub block : List ℕ
   pub store : List ℕ
 
-pub record Gave (o : Out) (r : ℕ) (n m b s : List ℕ) : Type 0 where
+pub record Gave (o : Out) (r : ℕ) (z n t b s : List ℕ) : Type 0 where
   pub answer : r ≡ o .answer
-  pub numbers : n ≡ o .numbers
-  pub map : m ≡ o .map
+  pub numbers : z ≡ o .numbers
+  pub head : n ≡ o .head
+  pub table : t ≡ o .table
   pub block : b ≡ o .block
   pub store : s ≡ o .store
 
--- "damaged octets are number 3"
-abbrev pub damaged : List ℕ → List ℕ → List ℕ → List ℕ → Out
-damaged numbers map block store = record { answer = 3; numbers = numbers; map = map; block = block; store = store }
+-- numbers that are no map's
+abbrev pub damaged : List ℕ → List ℕ → List ℕ → List ℕ → List ℕ → Out
+damaged numbers n t b s = record { answer = 3; numbers = numbers; head = n; table = t; block = b; store = s }
 
--- by what a call of the layer below gives
-abbrev pub outOf : {A : Type 0} → (A → ℕ) → (A → List ℕ) → (A → List ℕ) → Given A → Out
+-- by what a call of the layer below gives: the numbers at its end are those of its map, and of no other
+abbrev pub outOf : {A : Type 0} → (A → ℕ) → (A → List ℕ) → (A → HeaderMap) → Given A → Out
 outOf answer numbers map g =
     record {
       answer = answer (g .result);
       numbers = numbers (g .result);
-      map = map (g .result);
+      head = headNumbers (headIn (map (g .result)));
+      table = numbersOf (map (g .result) .table);
       block = g .block;
       store = g .store;
     }
@@ -91,8 +98,8 @@ fedAnswer r = answerOf (r .answer)
 abbrev pub fedTaken : Fed → List ℕ
 fedTaken r = r .taken ∷ []
 
-abbrev pub fedMap : Fed → List ℕ
-fedMap r = encoded (r .map)
+abbrev pub fedMap : Fed → HeaderMap
+fedMap r = r .map
 
 abbrev pub noNumbers : {A : Type 0} → A → List ℕ
 noNumbers r = []
@@ -100,61 +107,78 @@ noNumbers r = []
 abbrev pub madeAnswer : Made → ℕ
 madeAnswer r = checkedOf (r .answer)
 
-abbrev pub madeMap : Made → List ℕ
-madeMap r = encoded (r .map)
+abbrev pub madeMap : Made → HeaderMap
+madeMap r = r .map
 
 abbrev pub editAnswer : Edited → ℕ
 editAnswer r = editOf (r .answer)
 
-abbrev pub editMap : Edited → List ℕ
-editMap r = encoded (r .map)
+abbrev pub editMap : Edited → HeaderMap
+editMap r = r .map
 
--- begin takes whatever octets there are; refused, they stay
+-- begin takes whatever numbers there are, if they are as many as a map's; refused, they stay
 abbrev pub begun : Checked → List ℕ → HeaderMap → List ℕ
-begun Fine old new = encoded new
+begun Fine old new = headNumbers (headIn new)
 begun (Unchecked e) old new = old
 
-abbrev pub begunOut : List ℕ → Given Made → Out
-begunOut old g =
+abbrev pub begunOut : List ℕ → List ℕ → Given Made → Out
+begunOut n t g =
     record {
       answer = madeAnswer (g .result);
       numbers = [];
-      map = begun (g .result .answer) old (g .result .map);
+      head = begun (g .result .answer) n (g .result .map);
+      table = t;
       block = g .block;
       store = g .store;
     }
 
-unfoldable pub beginGives : List ℕ → ℕ → ℕ → Bool → Bool → List ℕ → List ℕ → Out
-beginGives m limit room awaits quirks b s =
-    if eqb (length m) 6208 then begunOut m (beginning (decoded m) limit room awaits quirks b s) else damaged [] m b s
+unfoldable pub beginGives : List ℕ → List ℕ → ℕ → ℕ → Bool → Bool → List ℕ → List ℕ → Out
+beginGives n t limit room awaits quirks b s =
+    if longMap n t then begunOut n t (beginning (mapIn t unmadeHead) limit room awaits quirks b s) else damaged [] n t b s
 
-unfoldable pub feedGives : List ℕ → ℕ → List ℕ → List ℕ → List ℕ → Out
-feedGives m n b s p = if sound m then outOf fedAnswer fedTaken fedMap (feeding (decoded m) b s p) else damaged (n ∷ []) m b s
+-- how many octets were taken is told at every call: none of numbers that are no map's
+unfoldable pub feedGives : List ℕ → List ℕ → List ℕ → List ℕ → List ℕ → Out
+feedGives n t b s p = if soundMap n t then outOf fedAnswer fedTaken fedMap (feeding (mapOf n t) b s p) else damaged (0 ∷ []) n t b s
 
-unfoldable pub finishGives : List ℕ → List ℕ → List ℕ → Out
-finishGives m b s = if sound m then outOf fedAnswer noNumbers fedMap (finishing (decoded m) b s) else damaged [] m b s
+unfoldable pub finishGives : List ℕ → List ℕ → List ℕ → List ℕ → Out
+finishGives n t b s = if soundMap n t then outOf fedAnswer noNumbers fedMap (finishing (mapOf n t) b s) else damaged [] n t b s
 
-unfoldable pub clearGives : List ℕ → List ℕ → List ℕ → Out
-clearGives m b s = if sound m then outOf madeAnswer noNumbers madeMap (clearing (decoded m) b s) else damaged [] m b s
+unfoldable pub clearGives : List ℕ → List ℕ → List ℕ → List ℕ → Out
+clearGives n t b s = if soundMap n t then outOf madeAnswer noNumbers madeMap (clearing (mapOf n t) b s) else damaged [] n t b s
 
-unfoldable pub setGives : List ℕ → List ℕ → List ℕ → List ℕ → List ℕ → Out
-setGives m b s k v = if sound m then outOf editAnswer noNumbers editMap (setting (decoded m) b s k v) else damaged [] m b s
+unfoldable pub setGives : List ℕ → List ℕ → List ℕ → List ℕ → List ℕ → List ℕ → Out
+setGives n t b s k v = if soundMap n t then outOf editAnswer noNumbers editMap (setting (mapOf n t) b s k v) else damaged [] n t b s
 
-unfoldable pub appendGives : List ℕ → List ℕ → List ℕ → List ℕ → List ℕ → Out
-appendGives m b s k v = if sound m then outOf editAnswer noNumbers editMap (appending (decoded m) b s k v) else damaged [] m b s
+unfoldable pub appendGives : List ℕ → List ℕ → List ℕ → List ℕ → List ℕ → List ℕ → Out
+appendGives n t b s k v = if soundMap n t then outOf editAnswer noNumbers editMap (appending (mapOf n t) b s k v) else damaged [] n t b s
 
-unfoldable pub removeGives : List ℕ → List ℕ → List ℕ → List ℕ → Out
-removeGives m b s k = if sound m then outOf editAnswer noNumbers editMap (removing (decoded m) b s k) else damaged [] m b s
+unfoldable pub removeGives : List ℕ → List ℕ → List ℕ → List ℕ → List ℕ → Out
+removeGives n t b s k = if soundMap n t then outOf editAnswer noNumbers editMap (removing (mapOf n t) b s k) else damaged [] n t b s
 
-unfoldable pub statusGives : List ℕ → List ℕ → List ℕ → List ℕ → Out
-statusGives m b s t = if sound m then outOf editAnswer noNumbers editMap (statusing (decoded m) b s t) else damaged [] m b s
+unfoldable pub statusGives : List ℕ → List ℕ → List ℕ → List ℕ → List ℕ → Out
+statusGives n t b s x = if soundMap n t then outOf editAnswer noNumbers editMap (statusing (mapOf n t) b s x) else damaged [] n t b s
 
--- the walker: its octets stand for the map's
+-- a walker: beside its map's numbers a trail is lent
+pub record Went : Type 0 where
+  pub out : Out
+  pub trail : List ℕ
+
+pub record Goes (o : Went) (r : ℕ) (z w n t b s : List ℕ) : Type 0 where
+  pub out : Gave (o .out) r z n t b s
+  pub trail : w ≡ o .trail
+
+abbrev pub trailIn : Walker → List ℕ
+trailIn w = w .position ∷ w .rest ∷ w .start ∷ staged (w .stage) ∷ []
+
+-- the walker that a trail and a map's numbers are
+abbrev pub walkerOf : List ℕ → List ℕ → List ℕ → Walker
+walkerOf w n t = record { map = mapOf n t; position = getD w 0 0; rest = getD w 1 0; stage = stageOf (getD w 3 0); start = getD w 2 0 }
+
 abbrev pub walkedAnswer : Walked → ℕ
 walkedAnswer r = stepOf (r .step)
 
-abbrev pub walkedOctets : Walked → List ℕ
-walkedOctets r = encodedWalker (r .walker)
+abbrev pub walkedMap : Walked → HeaderMap
+walkedMap r = r .walker .map
 
 -- a record begun: its start, its body's offset, its length and its type are written over the four numbers lent
 abbrev pub recordNumbers : Step → List ℕ → List ℕ
@@ -167,7 +191,13 @@ recordNumbers (Unwalked e) r = r
 abbrev pub walkedNumbers : List ℕ → Walked → List ℕ
 walkedNumbers r w = w .taken ∷ recordNumbers (w .step) r
 
--- start takes whatever octets there are; refused, they stay
+abbrev pub wentOf : (Walked → List ℕ) → Given Walked → Went
+wentOf numbers g = record { out = outOf walkedAnswer numbers walkedMap g; trail = trailIn (g .result .walker) }
+
+abbrev pub lost : List ℕ → List ℕ → List ℕ → List ℕ → List ℕ → List ℕ → Went
+lost numbers w n t b s = record { out = damaged numbers n t b s; trail = w }
+
+-- start takes whatever numbers there are, if they are as many as a walker's; refused, they stay
 abbrev pub started : Step → List ℕ → List ℕ → List ℕ
 started More old new = new
 started (Record a b c d) old new = new
@@ -175,77 +205,84 @@ started Body old new = new
 started End old new = new
 started (Unwalked e) old new = old
 
-abbrev pub startedOut : List ℕ → Given Walked → Out
-startedOut old g =
+abbrev pub startedOut : List ℕ → List ℕ → List ℕ → Given Walked → Went
+startedOut w n t g =
     record {
-      answer = startAnswer (g .result .step);
-      numbers = [];
-      map = started (g .result .step) old (encodedWalker (g .result .walker));
-      block = g .block;
-      store = g .store;
+      out =
+        record {
+          answer = startAnswer (g .result .step);
+          numbers = [];
+          head = started (g .result .step) n (headNumbers (headIn (g .result .walker .map)));
+          table = t;
+          block = g .block;
+          store = g .store;
+        };
+      trail = started (g .result .step) w (trailIn (g .result .walker));
     }
 
-unfoldable pub walkerGives : List ℕ → ℕ → ℕ → List ℕ → List ℕ → Out
-walkerGives w room position b s = if eqb (length w) 6240 then startedOut w (starting (decoded w) room position b s) else damaged [] w b s
+unfoldable pub walkerGives : List ℕ → List ℕ → List ℕ → ℕ → ℕ → List ℕ → List ℕ → Went
+walkerGives w n t room position b s =
+    if eqb (length w) 4 && longMap n t then startedOut w n t (starting (mapIn t unmadeHead) room position b s) else lost [] w n t b s
 
-unfoldable pub walkGives : List ℕ → ℕ → List ℕ → List ℕ → List ℕ → List ℕ → Out
-walkGives w n r b s p = if soundWalker w then outOf walkedAnswer (walkedNumbers r) walkedOctets (walking (decodedWalker w) b s p) else damaged (n ∷ r) w b s
+unfoldable pub walkGives : List ℕ → List ℕ → List ℕ → List ℕ → List ℕ → List ℕ → List ℕ → Went
+walkGives w n t r b s p =
+    if soundTrail w && soundMap n t then wentOf (walkedNumbers r) (walking (walkerOf w n t) b s p) else lost (0 ∷ r) w n t b s
 
-unfoldable pub endGives : List ℕ → List ℕ → List ℕ → Out
-endGives w b s = if soundWalker w then outOf walkedAnswer noNumbers walkedOctets (ending (decodedWalker w) b s) else damaged [] w b s
+unfoldable pub endGives : List ℕ → List ℕ → List ℕ → List ℕ → List ℕ → Went
+endGives w n t b s = if soundTrail w && soundMap n t then wentOf noNumbers (ending (walkerOf w n t) b s) else lost [] w n t b s
 
--- what a call that only looks gives: its answer, and the number that it hands out, which was n before
+-- the first checks of a call that only looks: 3 for numbers that are no map's too
+unfoldable pub openFor : List ℕ → List ℕ → List ℕ → List ℕ → Checked
+openFor n t b s = if soundMap n t then checkedDone (mapOf n t) b s else Unchecked (refusal 3)
+
+-- what a call that only looks gives: its answer, and the number that it hands out, which was k before
 pub record Told : Type 0 where
   pub answer : ℕ
   pub number : ℕ
 
-pub record Tells (o : Told) (r n : ℕ) : Type 0 where
+pub record Tells (o : Told) (r k : ℕ) : Type 0 where
   pub answer : r ≡ o .answer
-  pub number : n ≡ o .number
+  pub number : k ≡ o .number
 
 abbrev pub tellsDamaged : ℕ → Told
-tellsDamaged n = record { answer = 3; number = n }
-
-abbrev pub foundNumber : Found → ℕ → ℕ
-foundNumber (At i) n = i
-foundNumber Missing n = n
-foundNumber (Unfound e) n = n
+tellsDamaged k = record { answer = 3; number = k }
 
 abbrev pub codeNumber : Code → ℕ → ℕ
-codeNumber (CodeIs k) n = k
-codeNumber NoCode n = n
-codeNumber (Uncoded e) n = n
+codeNumber (CodeIs c) k = c
+codeNumber NoCode k = k
+codeNumber (Uncoded e) k = k
 
 abbrev pub lengthNumber : Length → ℕ → ℕ
-lengthNumber (LengthIs k) n = k
-lengthNumber NoLength n = n
-lengthNumber (Unmeasured e) n = n
+lengthNumber (LengthIs l) k = l
+lengthNumber NoLength k = k
+lengthNumber (Unmeasured e) k = k
 
 abbrev pub kindNumber : Kind → ℕ → ℕ
-kindNumber (KindIs k) n = k
-kindNumber (Untyped e) n = n
+kindNumber (KindIs c) k = c
+kindNumber (Untyped e) k = k
 
 abbrev pub countNumber : Wrote → ℕ → ℕ
-countNumber (Count k) n = k
-countNumber (Unwritten e) n = n
+countNumber (Count c) k = c
+countNumber (Unwritten e) k = k
 
-abbrev pub findTells : List ℕ → ℕ → List ℕ → List ℕ → List ℕ → ℕ → Told
-findTells m n b s name from =
-    if sound m then record { answer = foundOf (finding (decoded m) b s name from); number = foundNumber (finding (decoded m) b s name from) n }
-    else tellsDamaged n
+-- how many fields there are: the table's first numbers are then the places of all of them
+unfoldable pub fieldsTell : List ℕ → List ℕ → ℕ → List ℕ → List ℕ → Told
+fieldsTell n t k b s = unless (openFor n t b s) (λ x. record { answer = number x; number = k }) (record { answer = done; number = mapOf n t .fields })
 
-abbrev pub codeTells : List ℕ → ℕ → List ℕ → List ℕ → Told
-codeTells m n b s = if sound m then record { answer = codeOf (coding (decoded m) b s); number = codeNumber (coding (decoded m) b s) n } else tellsDamaged n
+abbrev pub codeTells : List ℕ → List ℕ → ℕ → List ℕ → List ℕ → Told
+codeTells n t k b s =
+    if soundMap n t then record { answer = codeOf (coding (mapOf n t) b s); number = codeNumber (coding (mapOf n t) b s) k } else tellsDamaged k
 
-abbrev pub lengthTells : List ℕ → ℕ → List ℕ → List ℕ → Told
-lengthTells m n b s =
-    if sound m then record { answer = lengthOf (lengthIn (decoded m) b s); number = lengthNumber (lengthIn (decoded m) b s) n } else tellsDamaged n
+abbrev pub lengthTells : List ℕ → List ℕ → ℕ → List ℕ → List ℕ → Told
+lengthTells n t k b s =
+    if soundMap n t then record { answer = lengthOf (lengthIn (mapOf n t) b s); number = lengthNumber (lengthIn (mapOf n t) b s) k } else tellsDamaged k
 
-abbrev pub kindTells : List ℕ → ℕ → List ℕ → List ℕ → Told
-kindTells m n b s = if sound m then record { answer = kindOf (kindIn (decoded m) b s); number = kindNumber (kindIn (decoded m) b s) n } else tellsDamaged n
+abbrev pub kindTells : List ℕ → List ℕ → ℕ → List ℕ → List ℕ → Told
+kindTells n t k b s =
+    if soundMap n t then record { answer = kindOf (kindIn (mapOf n t) b s); number = kindNumber (kindIn (mapOf n t) b s) k } else tellsDamaged k
 
-abbrev pub cleanTells : List ℕ → List ℕ → List ℕ → ℕ
-cleanTells m b s = if sound m then testOf (cleaning (decoded m) b s) else 3
+abbrev pub cleanTells : List ℕ → List ℕ → List ℕ → List ℕ → ℕ
+cleanTells n t b s = if soundMap n t then testOf (cleaning (mapOf n t) b s) else 3
 
 abbrev pub tidyTells : List ℕ → Bool → Bool → ℕ → ℕ
 tidyTells o awaits quirks limit = testOf (tidying o awaits quirks limit)
@@ -254,14 +291,14 @@ abbrev pub grammarTells : List ℕ → ℕ
 grammarTells o = if grammatical o then yes else other
 
 -- "With two maps the first is checked whole before the second."
-unfoldable pub twoTell : List ℕ → List ℕ → List ℕ → List ℕ → ℕ → ℕ
-twoTell m b s k both = if sound m then unless (checkedDone (decoded m) b s) number (if sound k then both else 3) else 3
+unfoldable pub twoTell : List ℕ → List ℕ → List ℕ → List ℕ → List ℕ → List ℕ → ℕ → ℕ
+twoTell n t b s m u both = unless (openFor n t b s) number (if soundMap m u then both else 3)
 
-abbrev pub equalTells : List ℕ → List ℕ → List ℕ → List ℕ → List ℕ → List ℕ → ℕ
-equalTells m b s k c z = twoTell m b s k (equalOf (comparing (decoded m) b s (decoded k) c z))
+abbrev pub equalTells : List ℕ → List ℕ → List ℕ → List ℕ → List ℕ → List ℕ → List ℕ → List ℕ → ℕ
+equalTells n t b s m u c z = twoTell n t b s m u (equalOf (comparing (mapOf n t) b s (mapOf m u) c z))
 
-abbrev pub resumeTells : List ℕ → List ℕ → List ℕ → List ℕ → List ℕ → List ℕ → ℕ
-resumeTells m b s k c z = twoTell m b s k (verdictOf (resuming (decoded m) b s (decoded k) c z))
+abbrev pub resumeTells : List ℕ → List ℕ → List ℕ → List ℕ → List ℕ → List ℕ → List ℕ → List ℕ → ℕ
+resumeTells n t b s m u c z = twoTell n t b s m u (verdictOf (resuming (mapOf n t) b s (mapOf m u) c z))
 
 -- what a call that hands out a place gives: its answer, which says the kind or that there is none, and the place's ends, which were f and e
 pub record Lying : Type 0 where
@@ -286,17 +323,57 @@ handedLies f e none = noneLies missing f e
 handedLies f e (some p) = placeLies p
 
 -- a refusal is told, where the lookups hand out an empty part
-unfoldable pub lookLies : List ℕ → ℕ → ℕ → List ℕ → List ℕ → Option Place → Lying
-lookLies m f e b s p = if sound m then unless (checkedDone (decoded m) b s) (λ x. noneLies (number x) f e) (handedLies f e p) else noneLies 3 f e
+unfoldable pub lookLies : List ℕ → List ℕ → ℕ → ℕ → List ℕ → List ℕ → Option Place → Lying
+lookLies n t f e b s p = unless (openFor n t b s) (λ x. noneLies (number x) f e) (handedLies f e p)
 
-abbrev pub valueLies : List ℕ → ℕ → ℕ → List ℕ → List ℕ → ℕ → Lying
-valueLies m f e b s i = lookLies m f e b s (valuePlace (decoded m) b s i)
+abbrev pub valueLies : List ℕ → List ℕ → ℕ → ℕ → List ℕ → List ℕ → ℕ → Lying
+valueLies n t f e b s i = lookLies n t f e b s (valuePlace (mapOf n t) b s i)
 
-abbrev pub keyLies : List ℕ → ℕ → ℕ → List ℕ → List ℕ → ℕ → Lying
-keyLies m f e b s i = lookLies m f e b s (keyPlace (decoded m) b s i)
+abbrev pub keyLies : List ℕ → List ℕ → ℕ → ℕ → List ℕ → List ℕ → ℕ → Lying
+keyLies n t f e b s i = lookLies n t f e b s (keyPlace (mapOf n t) b s i)
 
-abbrev pub statusLies : List ℕ → ℕ → ℕ → List ℕ → List ℕ → Lying
-statusLies m f e b s = lookLies m f e b s (statusPlace (decoded m) b s)
+abbrev pub statusLies : List ℕ → List ℕ → ℕ → ℕ → List ℕ → List ℕ → Lying
+statusLies n t f e b s = lookLies n t f e b s (statusPlace (mapOf n t) b s)
+
+-- the reason is the status from an octet on
+abbrev pub shifted : ℕ → Place → Place
+shifted k (Block a e) = inBlock (a .0 + k) (e .0)
+shifted k (Store a e) = inStore (a .0 + k) (e .0)
+
+abbrev pub reasonFrom : Place → Option ℕ → Option Place
+reasonFrom p none = none
+reasonFrom p (some k) = some (shifted k p)
+
+abbrev pub reasonOf : List ℕ → List ℕ → Option Place → Option Place
+reasonOf b s none = none
+reasonOf b s (some p) = reasonFrom p (reasonStart (at b s p))
+
+abbrev pub reasonLies : List ℕ → List ℕ → ℕ → ℕ → List ℕ → List ℕ → Lying
+reasonLies n t f e b s = lookLies n t f e b s (reasonOf b s (statusPlace (mapOf n t) b s))
+
+-- what a lookup by name gives: its answer says where the value lies, or that there is none; the field's number was k, the value's ends f and e
+pub record Sight : Type 0 where
+  pub number : ℕ
+  pub place : Lying
+
+pub record Sees (o : Sight) (r k f e : ℕ) : Type 0 where
+  pub number : k ≡ o .number
+  pub place : Lies (o .place) r f e
+
+-- a field that a table has
+abbrev pub Below : Found → Type 0
+Below (At i) = i < 256
+Below Missing = Unit {0}
+Below (Unfound x) = Unit {0}
+
+abbrev pub seenAt : HeaderMap → ℕ → ℕ → ℕ → Found → Sight
+seenAt m k f e (At i) = record { number = i; place = placeLies (getD (m .table) i noField .value) }
+seenAt m k f e Missing = record { number = k; place = noneLies missing f e }
+seenAt m k f e (Unfound x) = record { number = k; place = noneLies (number x) f e }
+
+unfoldable pub findSees : List ℕ → List ℕ → ℕ → ℕ → ℕ → List ℕ → List ℕ → List ℕ → ℕ → Sight
+findSees n t k f e b s name from =
+    if soundMap n t then seenAt (mapOf n t) k f e (finding (mapOf n t) b s name from) else record { number = k; place = noneLies 3 f e }
 
 -- what a call that writes gives: its answer, the count, and the output
 pub record Put : Type 0 where
@@ -304,19 +381,19 @@ pub record Put : Type 0 where
   pub number : ℕ
   pub out : List ℕ
 
-pub record Puts (o : Put) (r n : ℕ) (d : List ℕ) : Type 0 where
+pub record Puts (o : Put) (r k : ℕ) (d : List ℕ) : Type 0 where
   pub answer : r ≡ o .answer
-  pub number : n ≡ o .number
+  pub number : k ≡ o .number
   pub out : d ≡ o .out
 
 abbrev pub putOf : ℕ → Writing → Put
-putOf n g = record { answer = wroteOf (g .result); number = countNumber (g .result) n; out = g .out }
+putOf k g = record { answer = wroteOf (g .result); number = countNumber (g .result) k; out = g .out }
 
 abbrev pub putsDamaged : ℕ → List ℕ → Put
-putsDamaged n d = record { answer = 3; number = n; out = d }
+putsDamaged k d = record { answer = 3; number = k; out = d }
 
-abbrev pub writePuts : List ℕ → ℕ → List ℕ → List ℕ → List ℕ → Put
-writePuts m n b s d = if sound m then putOf n (writing (decoded m) b s d) else putsDamaged n d
+abbrev pub writePuts : List ℕ → List ℕ → ℕ → List ℕ → List ℕ → List ℕ → Put
+writePuts n t k b s d = if soundMap n t then putOf k (writing (mapOf n t) b s d) else putsDamaged k d
 
-abbrev pub rebuildPuts : List ℕ → ℕ → List ℕ → List ℕ → List ℕ → Put
-rebuildPuts m n b s d = if sound m then putOf n (rebuilding (decoded m) b s d) else putsDamaged n d
+abbrev pub rebuildPuts : List ℕ → List ℕ → ℕ → List ℕ → List ℕ → List ℕ → Put
+rebuildPuts n t k b s d = if soundMap n t then putOf k (rebuilding (mapOf n t) b s d) else putsDamaged k d

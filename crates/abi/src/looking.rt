@@ -1,47 +1,41 @@
-// Find, value, key and status.
+// Find, value, key, status and reason; how many fields there are.
 use crate::answers;
+use crate::opening;
+use codes::line;
+use codes::line::Start;
+use lent::heads;
+use lent::tables;
 use lookups::Found;
 use maps::Checked;
-use maps::HeaderMap;
+use maps::Head;
 use maps::Place;
 use maps::Status;
 ghost use mathlib.Core.Path.{_≡_};
-ghost use Rattle.maps.specs.Good.{checkedDone};
-ghost use Rattle.maps.specs.declared.Checked.the-variants.{Fine};
-ghost use Rattle.lookups.specs.Lookups.{valuePlace, keyPlace, statusIn};
-ghost use Rattle.abi.specs.Calls.{Tells, foundNumber, findTells, Lies, placeLies, handedLies, valueLies, keyLies, statusLies};
+ghost use mathlib.Core.Option.{some};
+ghost use lib.ListN.{length};
+ghost use Prim.Native.Nat.{_≤_};
+ghost use Rattle.lent.specs.Table.{mapIn};
+ghost use Rattle.lookups.specs.Lookups.{statusIn};
+ghost use Rattle.abi.specs.Calls.{Tells, fieldsTell, Below, Sees, seenAt, findSees, Lies, placeLies, handedLies, valueLies, keyLies, statusLies, shifted, reasonOf, reasonLies};
 
-fn put_number(f: Found, number: &mut u64)
-    ensures { λ _. ⌜ now (number .exit) ≡ foundNumber f (now (number .entry)) ⌝ }
-{
-    match f {
-        Found::At(i) => {
-            *number = i as u64;
-        }
-        Found::Missing => {}
-        Found::Refused(e) => {}
-    }
-}
-
-// The number of the first field from a given number on that has a name.
+// How many fields there are: the table's first numbers are then the places of all of them.
 #[no_mangle]
-pub extern "C" fn bisquecrow_find<'a>(
-    map: &[u8],
-    block: &'a [u8],
-    store: &'a [u8],
-    name: &[u8],
-    from: usize,
-    number: &mut u64,
+pub extern "C" fn bisquecrow_fields(
+    head: &[u64],
+    table: &[u32],
+    block: &[u8],
+    store: &[u8],
+    count: &mut u64,
 ) -> u32
-    ensures { λ r. ⌜ Tells (findTells (now (map .entry)) (now (number .entry)) (now (block .entry)) (now (store .entry)) (now (name .entry)) from) r (now (number .exit)) ⌝ }
+    ensures { λ r. ⌜ Tells (fieldsTell (now (head .entry)) (now (table .entry)) (now (count .entry)) (now (block .entry)) (now (store .entry))) r (now (count .exit)) ⌝ }
 {
-    if encoded::is_sound(map) {
-        let m = encoded::decode(map);
-        let f = lookups::find(m, block, store, name, from);
-        put_number(f, number);
-        return answers::found(f);
+    match opening::open(head, table, block, store) {
+        Checked::Fine => {
+            *count = head[5];
+            answers::DONE
+        }
+        Checked::Refused(e) => answers::refused(e),
     }
-    answers::DAMAGED
 }
 
 // Hands out a place: its kind is the answer.
@@ -62,94 +56,105 @@ fn put_place(p: Place, from: &mut u64, to: &mut u64) -> u32
     }
 }
 
-fn put_value<'a>(
-    m: HeaderMap,
-    block: &'a [u8],
-    store: &'a [u8],
-    number: usize,
+// Hands out the number of a field that was found, and its value's place.
+fn put_found(
+    found: Found,
+    h: Head,
+    table: &[u32],
+    number: &mut u64,
     from: &mut u64,
     to: &mut u64,
 ) -> u32
-    requires { ⌜ Fine ≡ checkedDone m (now block) (now store) ⌝ }
-    ensures { λ r. ⌜ Lies (handedLies (now (from .entry)) (now (to .entry)) (valuePlace m (now (block .entry)) (now (store .entry)) number)) r (now (from .exit)) (now (to .exit)) ⌝ }
+    requires { ⌜ (length (now table) ≡ 1024) × Below found ⌝ }
+    ensures { λ r. ⌜ Sees (seenAt (mapIn (now (table .entry)) h) (now (number .entry)) (now (from .entry)) (now (to .entry)) found) r (now (number .exit)) (now (from .exit)) (now (to .exit)) ⌝ }
 {
-    if number < m.fields {
-        let f = m.table[number];
-        let p = f.value;
-        return put_place(p, from, to);
+    match found {
+        Found::At(i) => {
+            *number = i as u64;
+            let f = tables::field_at(table, i);
+            let p = f.value;
+            put_place(p, from, to)
+        }
+        Found::Missing => answers::MISSING,
+        Found::Refused(e) => answers::refused(e),
     }
-    answers::MISSING
 }
 
-fn put_key<'a>(
-    m: HeaderMap,
+// The first field from a given number on that has a name: its number, and where its value lies.
+#[no_mangle]
+pub extern "C" fn bisquecrow_find<'a>(
+    head: &[u64],
+    table: &[u32],
     block: &'a [u8],
     store: &'a [u8],
-    number: usize,
+    name: &[u8],
+    start: usize,
+    number: &mut u64,
     from: &mut u64,
     to: &mut u64,
 ) -> u32
-    requires { ⌜ Fine ≡ checkedDone m (now block) (now store) ⌝ }
-    ensures { λ r. ⌜ Lies (handedLies (now (from .entry)) (now (to .entry)) (keyPlace m (now (block .entry)) (now (store .entry)) number)) r (now (from .exit)) (now (to .exit)) ⌝ }
+    ensures { λ r. ⌜ Sees (findSees (now (head .entry)) (now (table .entry)) (now (number .entry)) (now (from .entry)) (now (to .entry)) (now (block .entry)) (now (store .entry)) (now (name .entry)) start) r (now (number .exit)) (now (from .exit)) (now (to .exit)) ⌝ }
 {
-    if number < m.fields {
-        let f = m.table[number];
-        let p = f.key;
-        return put_place(p, from, to);
+    match opening::open(head, table, block, store) {
+        Checked::Fine => {
+            let h = heads::head_at(head);
+            let found = tables::find(table, h.fields, block, store, name, start);
+            put_found(found, h, table, number, from, to)
+        }
+        Checked::Refused(e) => answers::refused(e),
     }
-    answers::MISSING
 }
 
 // Where the value of a field lies.
 #[no_mangle]
-pub extern "C" fn bisquecrow_value<'a>(
-    map: &[u8],
-    block: &'a [u8],
-    store: &'a [u8],
+pub extern "C" fn bisquecrow_value(
+    head: &[u64],
+    table: &[u32],
+    block: &[u8],
+    store: &[u8],
     number: usize,
     from: &mut u64,
     to: &mut u64,
 ) -> u32
-    ensures { λ r. ⌜ Lies (valueLies (now (map .entry)) (now (from .entry)) (now (to .entry)) (now (block .entry)) (now (store .entry)) number) r (now (from .exit)) (now (to .exit)) ⌝ }
+    ensures { λ r. ⌜ Lies (valueLies (now (head .entry)) (now (table .entry)) (now (from .entry)) (now (to .entry)) (now (block .entry)) (now (store .entry)) number) r (now (from .exit)) (now (to .exit)) ⌝ }
 {
-    if encoded::is_sound(map) {
-        let m = encoded::decode(map);
-        match maps::check_done(m, block, store) {
-            Checked::Fine => {
-                return put_value(m, block, store, number, from, to);
+    match opening::open(head, table, block, store) {
+        Checked::Fine => {
+            if (number as u64) < head[5] {
+                let f = tables::field_at(table, number);
+                let p = f.value;
+                return put_place(p, from, to);
             }
-            Checked::Refused(e) => {
-                return answers::refused(e);
-            }
+            answers::MISSING
         }
+        Checked::Refused(e) => answers::refused(e),
     }
-    answers::DAMAGED
 }
 
 // Where the key of a field lies.
 #[no_mangle]
-pub extern "C" fn bisquecrow_key<'a>(
-    map: &[u8],
-    block: &'a [u8],
-    store: &'a [u8],
+pub extern "C" fn bisquecrow_key(
+    head: &[u64],
+    table: &[u32],
+    block: &[u8],
+    store: &[u8],
     number: usize,
     from: &mut u64,
     to: &mut u64,
 ) -> u32
-    ensures { λ r. ⌜ Lies (keyLies (now (map .entry)) (now (from .entry)) (now (to .entry)) (now (block .entry)) (now (store .entry)) number) r (now (from .exit)) (now (to .exit)) ⌝ }
+    ensures { λ r. ⌜ Lies (keyLies (now (head .entry)) (now (table .entry)) (now (from .entry)) (now (to .entry)) (now (block .entry)) (now (store .entry)) number) r (now (from .exit)) (now (to .exit)) ⌝ }
 {
-    if encoded::is_sound(map) {
-        let m = encoded::decode(map);
-        match maps::check_done(m, block, store) {
-            Checked::Fine => {
-                return put_key(m, block, store, number, from, to);
+    match opening::open(head, table, block, store) {
+        Checked::Fine => {
+            if (number as u64) < head[5] {
+                let f = tables::field_at(table, number);
+                let p = f.key;
+                return put_place(p, from, to);
             }
-            Checked::Refused(e) => {
-                return answers::refused(e);
-            }
+            answers::MISSING
         }
+        Checked::Refused(e) => answers::refused(e),
     }
-    answers::DAMAGED
 }
 
 fn put_status(s: Status, from: &mut u64, to: &mut u64) -> u32
@@ -163,26 +168,82 @@ fn put_status(s: Status, from: &mut u64, to: &mut u64) -> u32
 
 // Where the status lies.
 #[no_mangle]
-pub extern "C" fn bisquecrow_status<'a>(
-    map: &[u8],
+pub extern "C" fn bisquecrow_status(
+    head: &[u64],
+    table: &[u32],
+    block: &[u8],
+    store: &[u8],
+    from: &mut u64,
+    to: &mut u64,
+) -> u32
+    ensures { λ r. ⌜ Lies (statusLies (now (head .entry)) (now (table .entry)) (now (from .entry)) (now (to .entry)) (now (block .entry)) (now (store .entry))) r (now (from .exit)) (now (to .exit)) ⌝ }
+{
+    match opening::open(head, table, block, store) {
+        Checked::Fine => {
+            let h = heads::head_at(head);
+            let s = h.status;
+            put_status(s, from, to)
+        }
+        Checked::Refused(e) => answers::refused(e),
+    }
+}
+
+// Hands out a place from its octet k on.
+fn put_rest(p: Place, k: usize, from: &mut u64, to: &mut u64) -> u32
+    requires { ⌜ k ≤ 4294967295 ⌝ }
+    ensures { λ r. ⌜ Lies (placeLies (shifted k p)) r (now (from .exit)) (now (to .exit)) ⌝ }
+{
+    match p {
+        Place::Block(a, e) => {
+            *from = (a.0 as u64) + (k as u64);
+            *to = e.0 as u64;
+            answers::IN_BLOCK
+        }
+        Place::Store(a, e) => {
+            *from = (a.0 as u64) + (k as u64);
+            *to = e.0 as u64;
+            answers::IN_STORE
+        }
+    }
+}
+
+fn put_reason<'a>(
+    p: Place,
     block: &'a [u8],
     store: &'a [u8],
     from: &mut u64,
     to: &mut u64,
 ) -> u32
-    ensures { λ r. ⌜ Lies (statusLies (now (map .entry)) (now (from .entry)) (now (to .entry)) (now (block .entry)) (now (store .entry))) r (now (from .exit)) (now (to .exit)) ⌝ }
+    ensures { λ r. ⌜ Lies (handedLies (now (from .entry)) (now (to .entry)) (reasonOf (now (block .entry)) (now (store .entry)) (some p))) r (now (from .exit)) (now (to .exit)) ⌝ }
 {
-    if encoded::is_sound(map) {
-        let m = encoded::decode(map);
-        match maps::check_done(m, block, store) {
-            Checked::Fine => {
-                let s = m.status;
-                return put_status(s, from, to);
-            }
-            Checked::Refused(e) => {
-                return answers::refused(e);
+    let text = maps::part(block, store, p);
+    match line::reason_start(text) {
+        Start::At(k) => put_rest(p, k, from, to),
+        Start::None => answers::MISSING,
+    }
+}
+
+// Where the reason lies.
+#[no_mangle]
+pub extern "C" fn bisquecrow_reason<'a>(
+    head: &[u64],
+    table: &[u32],
+    block: &'a [u8],
+    store: &'a [u8],
+    from: &mut u64,
+    to: &mut u64,
+) -> u32
+    ensures { λ r. ⌜ Lies (reasonLies (now (head .entry)) (now (table .entry)) (now (from .entry)) (now (to .entry)) (now (block .entry)) (now (store .entry))) r (now (from .exit)) (now (to .exit)) ⌝ }
+{
+    match opening::open(head, table, block, store) {
+        Checked::Fine => {
+            let h = heads::head_at(head);
+            let s = h.status;
+            match s {
+                Status::Absent => answers::MISSING,
+                Status::At(p) => put_reason(p, block, store, from, to),
             }
         }
+        Checked::Refused(e) => answers::refused(e),
     }
-    answers::DAMAGED
 }

@@ -1,5 +1,7 @@
 // What a map tells, what tests say of maps and of octets, and the resume check.
 use crate::answers;
+use crate::opening;
+use lent::heads;
 use codes::Kind;
 use codes::Length;
 use codes::line::Code;
@@ -22,16 +24,17 @@ fn put_code(c: Code, code: &mut u64)
 // The status code.
 #[no_mangle]
 pub extern "C" fn bisquecrow_status_code<'a>(
-    map: &[u8],
+    head: &[u64],
+    table: &[u32],
     block: &'a [u8],
     store: &'a [u8],
     code: &mut u64,
 ) -> u32
-    ensures { λ r. ⌜ Tells (codeTells (now (map .entry)) (now (code .entry)) (now (block .entry)) (now (store .entry))) r (now (code .exit)) ⌝ }
+    ensures { λ r. ⌜ Tells (codeTells (now (head .entry)) (now (table .entry)) (now (code .entry)) (now (block .entry)) (now (store .entry))) r (now (code .exit)) ⌝ }
 {
-    if encoded::is_sound(map) {
-        let m = encoded::decode(map);
-        let c = codes::status_code(m, block, store);
+    if lent::is_sound(head, table) {
+        let h = heads::head_at(head);
+        let c = lent_codes::status_code(h, table, block, store);
         put_code(c, code);
         return answers::coded(c);
     }
@@ -53,16 +56,17 @@ fn put_length(l: Length, length: &mut u64)
 // The content length of the first field of that name.
 #[no_mangle]
 pub extern "C" fn bisquecrow_content_length<'a>(
-    map: &[u8],
+    head: &[u64],
+    table: &[u32],
     block: &'a [u8],
     store: &'a [u8],
     length: &mut u64,
 ) -> u32
-    ensures { λ r. ⌜ Tells (lengthTells (now (map .entry)) (now (length .entry)) (now (block .entry)) (now (store .entry))) r (now (length .exit)) ⌝ }
+    ensures { λ r. ⌜ Tells (lengthTells (now (head .entry)) (now (table .entry)) (now (length .entry)) (now (block .entry)) (now (store .entry))) r (now (length .exit)) ⌝ }
 {
-    if encoded::is_sound(map) {
-        let m = encoded::decode(map);
-        let l = codes::content_length(m, block, store);
+    if lent::is_sound(head, table) {
+        let h = heads::head_at(head);
+        let l = lent_codes::content_length(h, table, block, store);
         put_length(l, length);
         return answers::measured(l);
     }
@@ -83,16 +87,17 @@ fn put_type(k: Kind, code: &mut u64)
 // The code of a record's type.
 #[no_mangle]
 pub extern "C" fn bisquecrow_record_type<'a>(
-    map: &[u8],
+    head: &[u64],
+    table: &[u32],
     block: &'a [u8],
     store: &'a [u8],
     code: &mut u64,
 ) -> u32
-    ensures { λ r. ⌜ Tells (kindTells (now (map .entry)) (now (code .entry)) (now (block .entry)) (now (store .entry))) r (now (code .exit)) ⌝ }
+    ensures { λ r. ⌜ Tells (kindTells (now (head .entry)) (now (table .entry)) (now (code .entry)) (now (block .entry)) (now (store .entry))) r (now (code .exit)) ⌝ }
 {
-    if encoded::is_sound(map) {
-        let m = encoded::decode(map);
-        let k = codes::record_type(m, block, store);
+    if lent::is_sound(head, table) {
+        let h = heads::head_at(head);
+        let k = lent_codes::record_type(h, table, block, store);
         put_type(k, code);
         return answers::typed(k);
     }
@@ -101,11 +106,16 @@ pub extern "C" fn bisquecrow_record_type<'a>(
 
 // Whether what a map says is clean.
 #[no_mangle]
-pub extern "C" fn bisquecrow_clean<'a>(map: &[u8], block: &'a [u8], store: &'a [u8]) -> u32
-    ensures { λ r. ⌜ r ≡ cleanTells (now (map .entry)) (now (block .entry)) (now (store .entry)) ⌝ }
+pub extern "C" fn bisquecrow_clean<'a>(
+    head: &[u64],
+    table: &[u32],
+    block: &'a [u8],
+    store: &'a [u8],
+) -> u32
+    ensures { λ r. ⌜ r ≡ cleanTells (now (head .entry)) (now (table .entry)) (now (block .entry)) (now (store .entry)) ⌝ }
 {
-    if encoded::is_sound(map) {
-        let m = encoded::decode(map);
+    if lent::is_sound(head, table) {
+        let m = lent::live_at(head, table);
         let t = tests::clean(m, block, store);
         return answers::tested(t);
     }
@@ -135,61 +145,55 @@ pub extern "C" fn bisquecrow_grammatical(octets: &[u8]) -> u32
 // Whether two maps say the same. The first is checked whole before the second.
 #[no_mangle]
 pub extern "C" fn bisquecrow_equal<'a>(
-    one: &[u8],
+    head: &[u64],
+    table: &[u32],
     block: &'a [u8],
     store: &'a [u8],
-    two: &[u8],
+    head2: &[u64],
+    table2: &[u32],
     block2: &'a [u8],
     store2: &'a [u8],
 ) -> u32
-    ensures { λ r. ⌜ r ≡ equalTells (now (one .entry)) (now (block .entry)) (now (store .entry)) (now (two .entry)) (now (block2 .entry)) (now (store2 .entry)) ⌝ }
+    ensures { λ r. ⌜ r ≡ equalTells (now (head .entry)) (now (table .entry)) (now (block .entry)) (now (store .entry)) (now (head2 .entry)) (now (table2 .entry)) (now (block2 .entry)) (now (store2 .entry)) ⌝ }
 {
-    if encoded::is_sound(one) {
-        let m = encoded::decode(one);
-        match maps::check_done(m, block, store) {
-            Checked::Fine => {
-                if encoded::is_sound(two) {
-                    let k = encoded::decode(two);
-                    let e = equals::compare(m, block, store, k, block2, store2);
-                    return answers::compared(e);
-                }
-                return answers::DAMAGED;
+    match opening::open(head, table, block, store) {
+        Checked::Fine => {
+            if lent::is_sound(head2, table2) {
+                let one = lent::live_at(head, table);
+                let two = lent::live_at(head2, table2);
+                let e = equals::compare(one, block, store, two, block2, store2);
+                return answers::compared(e);
             }
-            Checked::Refused(e) => {
-                return answers::refused(e);
-            }
+            answers::DAMAGED
         }
+        Checked::Refused(e) => answers::refused(e),
     }
-    answers::DAMAGED
 }
 
 // Whether the second message's body may be appended to the first's.
 #[no_mangle]
 pub extern "C" fn bisquecrow_resume<'a>(
-    one: &[u8],
+    head: &[u64],
+    table: &[u32],
     block: &'a [u8],
     store: &'a [u8],
-    two: &[u8],
+    head2: &[u64],
+    table2: &[u32],
     block2: &'a [u8],
     store2: &'a [u8],
 ) -> u32
-    ensures { λ r. ⌜ r ≡ resumeTells (now (one .entry)) (now (block .entry)) (now (store .entry)) (now (two .entry)) (now (block2 .entry)) (now (store2 .entry)) ⌝ }
+    ensures { λ r. ⌜ r ≡ resumeTells (now (head .entry)) (now (table .entry)) (now (block .entry)) (now (store .entry)) (now (head2 .entry)) (now (table2 .entry)) (now (block2 .entry)) (now (store2 .entry)) ⌝ }
 {
-    if encoded::is_sound(one) {
-        let m = encoded::decode(one);
-        match maps::check_done(m, block, store) {
-            Checked::Fine => {
-                if encoded::is_sound(two) {
-                    let k = encoded::decode(two);
-                    let v = resume::resume(m, block, store, k, block2, store2);
-                    return answers::judged(v);
-                }
-                return answers::DAMAGED;
+    match opening::open(head, table, block, store) {
+        Checked::Fine => {
+            if lent::is_sound(head2, table2) {
+                let one = lent::live_at(head, table);
+                let two = lent::live_at(head2, table2);
+                let v = resume::resume(one, block, store, two, block2, store2);
+                return answers::judged(v);
             }
-            Checked::Refused(e) => {
-                return answers::refused(e);
-            }
+            answers::DAMAGED
         }
+        Checked::Refused(e) => answers::refused(e),
     }
-    answers::DAMAGED
 }

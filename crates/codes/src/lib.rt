@@ -35,7 +35,8 @@ pub enum Kind {
     Refused(Refusal),
 }
 
-fn status_text<'a>(status: Status, block: &'a [u8], store: &'a [u8]) -> &'a [u8]
+// The octets of a status; none if it is absent.
+pub fn status_text<'a>(status: Status, block: &'a [u8], store: &'a [u8]) -> &'a [u8]
     ensures { λ r. ⌜ now r ≡ handedOut (now (block .entry)) (now (store .entry)) (statusIn status) ⌝ }
 {
     match status {

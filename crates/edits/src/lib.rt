@@ -30,7 +30,8 @@ pub struct Edited {
     pub map: HeaderMap,
 }
 
-fn changed(e: bool, k: usize, n: usize) -> bool
+// Whether a map is edited once k of its n fields stay.
+pub fn changed(e: bool, k: usize, n: usize) -> bool
     ensures { λ r. ⌜ r ≡ (e || ltb k n) ⌝ }
 {
     if e { true } else { k < n }
@@ -66,7 +67,7 @@ pub fn remove<'a>(m: HeaderMap, block: &'a [u8], store: &'a [u8], key: &[u8]) ->
 }
 
 // The field whose key and value are to stand at the mark.
-fn new_field(mark: usize, k: usize, v: usize) -> Field
+pub fn new_field(mark: usize, k: usize, v: usize) -> Field
     requires { ⌜ mark + k + v ≤ 65536 ⌝ }
     ensures { λ r. ⌜ r ≡ newField mark k v ⌝ }
 {
@@ -77,7 +78,7 @@ fn new_field(mark: usize, k: usize, v: usize) -> Field
 }
 
 // Whether two texts fit into the store's free part.
-fn fit(free: usize, k: usize, v: usize) -> bool
+pub fn fit(free: usize, k: usize, v: usize) -> bool
     ensures { λ r. ⌜ r ≡ leb (k + v) free ⌝ }
 {
     if k <= free {
@@ -87,7 +88,7 @@ fn fit(free: usize, k: usize, v: usize) -> bool
 }
 
 // Writes the sanitised key and then the sanitised value at the mark.
-fn write_both(store: &mut [u8], mark: usize, key: &[u8], value: &[u8]) -> usize
+pub fn write_both(store: &mut [u8], mark: usize, key: &[u8], value: &[u8]) -> usize
     requires { ⌜ mark + length (sanitised true (now key)) + length (sanitised false (now value)) ≤ length (now store) ⌝ }
     ensures { λ r. ⌜ (r ≡ mark + length (sanitised true (now (key .entry))) + length (sanitised false (now (value .entry)))) × (now (store .exit) ≡ pasted (now (store .entry)) mark (sanitised true (now (key .entry)) ++ sanitised false (now (value .entry)))) ⌝ }
 {

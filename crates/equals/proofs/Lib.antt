@@ -2,3 +2,4 @@ pub mod OctetLaws
 pub mod PairLaws
 pub mod CompareLaws
 pub mod SaidEq
+pub mod BehindLaws

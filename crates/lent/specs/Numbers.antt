@@ -12,6 +12,8 @@ use Rattle.maps.specs.declared.Status.the-variants.{Absent, At}
 use Rattle.maps.specs.declared.Phase.{Phase}
 use Rattle.maps.specs.declared.Phase.the-variants.{Reading, Done}
 use Rattle.maps.specs.declared.Head.{Head}
+use Rattle.maps.specs.declared.HeaderMap.{HeaderMap}
+use Rattle.lent.specs.Table.{mapIn}
 
 abbrev pub flagOf : Bool → ℕ
 flagOf true = 1
@@ -79,3 +81,11 @@ soundHead n =
 -- numbers that are a map's: those of a head, and a table of 256 fields
 unfoldable pub soundMap : List ℕ → List ℕ → Bool
 soundMap n t = soundHead n && eqb (length t) 1024
+
+-- as many numbers as a map's, whatever they are
+unfoldable pub longMap : List ℕ → List ℕ → Bool
+longMap n t = eqb (length n) 13 && eqb (length t) 1024
+
+-- the map that numbers are
+abbrev pub mapOf : List ℕ → List ℕ → HeaderMap
+mapOf n t = mapIn t (headOf n)

@@ -8,6 +8,7 @@ use maps::StoreOffset;
 ghost use mathlib.Core.Path.{_≡_};
 ghost use mathlib.Core.Bool.{true};
 ghost use lib.ListN.{length};
+ghost use Rattle.maps.specs.Heads.{unmadeHead};
 ghost use Rattle.lent.specs.Numbers.{flagOf, phaseNumber, statusKind, statusFrom, statusTo, headNumbers, statusOf, phaseOf, headOf, soundStatus, soundHead};
 
 // How many numbers a head is.
@@ -168,4 +169,23 @@ pub fn put_head(n: &mut [u64], h: Head)
     n[10] = flag_of(h.quirks);
     n[11] = flag_of(h.edited);
     n[12] = number_of(phase);
+}
+
+// The head of the first map of a caller.
+pub fn unmade() -> Head
+    ensures { λ r. ⌜ r ≡ unmadeHead ⌝ }
+{
+    Head {
+        limit: 0,
+        room: 0,
+        count: 0,
+        line: 0,
+        mark: 0,
+        fields: 0,
+        status: Status::Absent,
+        awaits: false,
+        quirks: false,
+        edited: false,
+        phase: Phase::Done,
+    }
 }

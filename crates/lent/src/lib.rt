@@ -3,16 +3,24 @@ pub mod heads;
 pub mod tables;
 
 use leaves::refusals::Refusal;
+use maps::BlockOffset;
 use maps::Checked;
 use maps::Field;
 use maps::Head;
 use maps::HeaderMap;
+use maps::Place;
 ghost use mathlib.Core.Path.{_≡_};
-ghost use Prim.Native.Nat.{_≤_};
-ghost use lib.ListN.{length, take};
+ghost use mathlib.Core.Bool.{true};
+ghost use Prim.Native.Nat.{_≤_, min};
+ghost use lib.ListN.{length, take, replicate};
 ghost use Rattle.leaves.specs.Paste.{lay};
-ghost use Rattle.maps.specs.Good.{FitAll, good, checked};
-ghost use Rattle.lent.specs.Table.{tableOf, mapIn, liveIn};
+ghost use Rattle.maps.specs.Places.{noField};
+ghost use Rattle.maps.specs.Good.{FitAll, good, checked, checkedDone};
+ghost use Rattle.lent.specs.Table.{fieldsFrom, tableOf, mapIn, liveIn};
+ghost use Rattle.lent.specs.Numbers.{headOf, soundMap, longMap};
+
+// How many numbers a table is.
+pub const TABLE: usize = 1024;
 
 // 3 is not given: the map is good.
 fn is_good(h: Head, t: &[u32]) -> bool
@@ -59,23 +67,52 @@ pub fn check(h: Head, t: &[u32], ready: bool, block: usize, store: usize) -> Che
     Checked::Refused(Refusal::BadMap)
 }
 
-// The map by value, with the fields that count alone.
-pub fn live_map(h: Head, t: &[u32]) -> HeaderMap
-    requires { ⌜ length (now t) ≡ 1024 ⌝ }
-    ensures { λ r. ⌜ r ≡ liveIn (now (t .entry)) h ⌝ }
+// How many fields a map holds of n.
+fn few(n: usize) -> usize
+    ensures { λ r. ⌜ r ≡ min n 256 ⌝ }
 {
-    let m = HeaderMap::new();
-    let mut table = m.table;
-    let mut n = h.fields;
-    if maps::FIELDS < n {
-        n = maps::FIELDS;
+    if n <= maps::FIELDS {
+        return n;
     }
+    maps::FIELDS
+}
+
+// A table by value: the first n fields, and behind them what was never used.
+fn live_table(t: &[u32], n: usize) -> [Field; 256]
+    requires { ⌜ (n ≤ 256) × (length (now t) ≡ 1024) ⌝ }
+    ensures { λ r. ⌜ r ≡ lay (replicate 256 noField) (fieldsFrom (now (t .entry)) 0 n) ⌝ }
+{
+    let none = Field {
+        key: Place::Block(BlockOffset(0), BlockOffset(0)),
+        value: Place::Block(BlockOffset(0), BlockOffset(0)),
+    };
+    let mut table = [none; 256];
     let mut i = 0;
     while i < n {
         let f = tables::field_at(t, i);
         table[i] = f;
         i += 1;
     }
+    table
+}
+
+// The first checks of a call that wants a map that is Done.
+pub fn check_done(h: Head, t: &[u32], block: &[u8], store: &[u8]) -> Checked
+    requires { ⌜ length (now t) ≡ 1024 ⌝ }
+    ensures { λ r. ⌜ r ≡ checkedDone (mapIn (now (t .entry)) h) (now (block .entry)) (now (store .entry)) ⌝ }
+{
+    let phase = h.phase;
+    let ready = maps::is_done(phase);
+    check(h, t, ready, block.len(), store.len())
+}
+
+// The map by value, with the fields that count alone.
+pub fn live_map(h: Head, t: &[u32]) -> HeaderMap
+    requires { ⌜ length (now t) ≡ 1024 ⌝ }
+    ensures { λ r. ⌜ r ≡ liveIn (now (t .entry)) h ⌝ }
+{
+    let n = few(h.fields);
+    let table = live_table(t, n);
     let status = h.status;
     let phase = h.phase;
     HeaderMap {
@@ -105,4 +142,33 @@ pub fn put_fields(table: [Field; 256], n: usize, t: &mut [u32])
         tables::put_field(t, i, f);
         i += 1;
     }
+}
+
+// Whether numbers are a map's.
+pub fn is_sound(n: &[u64], t: &[u32]) -> bool
+    ensures { λ r. ⌜ r ≡ soundMap (now (n .entry)) (now (t .entry)) ⌝ }
+{
+    if heads::is_sound(n) {
+        return t.len() == TABLE;
+    }
+    false
+}
+
+// Whether numbers are as many as a map's.
+pub fn is_long(n: &[u64], t: &[u32]) -> bool
+    ensures { λ r. ⌜ r ≡ longMap (now (n .entry)) (now (t .entry)) ⌝ }
+{
+    if n.len() == heads::HEAD {
+        return t.len() == TABLE;
+    }
+    false
+}
+
+// The map that numbers are, by value, with the fields that count alone.
+pub fn live_at(n: &[u64], t: &[u32]) -> HeaderMap
+    requires { ⌜ soundMap (now n) (now t) ≡ true ⌝ }
+    ensures { λ r. ⌜ r ≡ liveIn (now (t .entry)) (headOf (now (n .entry))) ⌝ }
+{
+    let h = heads::head_at(n);
+    live_map(h, t)
 }

@@ -1,3 +1,4 @@
 pub mod SeekLaws
 pub mod HandLaws
 pub mod CalledLaws
+pub mod BehindLaws

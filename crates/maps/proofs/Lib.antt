@@ -4,3 +4,4 @@ pub mod GoodBy
 pub mod GoodLaws
 pub mod SaidLaws
 pub mod TextLaws
+pub mod BehindLaws

@@ -7,6 +7,7 @@ use Rattle.maps.specs.declared.Head.{Head}
 use Rattle.maps.specs.declared.HeaderMap.{HeaderMap}
 use Rattle.maps.specs.declared.Status.the-variants.{Absent}
 use Rattle.maps.specs.declared.Phase.{Phase}
+use Rattle.maps.specs.declared.Phase.the-variants.{Done}
 
 -- a table under a head is a map
 abbrev pub under : List Field → Head → HeaderMap
@@ -59,3 +60,7 @@ emptyHead limit room awaits quirks phase =
       edited = false;
       phase = phase;
     }
+
+-- the head of the first map of a caller
+abbrev pub unmadeHead : Head
+unmadeHead = emptyHead 0 0 false false Done

@@ -37,7 +37,8 @@ pub struct Made {
     pub answer: Checked,
 }
 
-fn empty_head(limit: usize, room: usize, awaits: bool, quirks: bool, phase: Phase) -> Head
+// The head of an empty map.
+pub fn empty_head(limit: usize, room: usize, awaits: bool, quirks: bool, phase: Phase) -> Head
     ensures { λ r. ⌜ r ≡ emptyHead limit room awaits quirks phase ⌝ }
 {
     Head {
@@ -56,7 +57,7 @@ fn empty_head(limit: usize, room: usize, awaits: bool, quirks: bool, phase: Phas
 }
 
 // What a reading that stands at a head leaves of it with an answer.
-fn head_after(answer: Answer, h: Head) -> Head
+pub fn head_after(answer: Answer, h: Head) -> Head
     ensures { λ r. ⌜ r ≡ headAfter answer h ⌝ }
 {
     match answer {
@@ -87,7 +88,8 @@ fn head_when(checked: Checked, new: Head, old: Head) -> Head
     }
 }
 
-fn last_of(n: usize) -> usize
+// The number of the last of n fields, 0 if there is none.
+pub fn last_of(n: usize) -> usize
     ensures { λ r. ⌜ r ≡ n - 1 ⌝ }
 {
     if n == 0 { 0 } else { n - 1 }
@@ -95,7 +97,7 @@ fn last_of(n: usize) -> usize
 
 // How many octets of a line stand before its first colon. Where the line lies whole in the piece, at from, it is looked for there: octets
 // that were just stored are slow to read back.
-fn colon_of(piece: &[u8], from: usize, k: usize, line: &[u8], whole: bool) -> usize
+pub fn colon_of(piece: &[u8], from: usize, k: usize, line: &[u8], whole: bool) -> usize
     requires { ⌜ Lying (now piece) from k (now line) whole ⌝ }
     ensures { λ r. ⌜ r ≡ before 58 (now (line .entry)) ⌝ }
 {
@@ -390,7 +392,7 @@ pub fn clear(m: HeaderMap, block: &[u8], store: &[u8]) -> Made
 }
 
 // What begin checks: 1, 2.
-fn check_rooms(limit: usize, room: usize, block: usize, store: usize) -> Checked
+pub fn check_rooms(limit: usize, room: usize, block: usize, store: usize) -> Checked
     ensures { λ r. ⌜ r ≡ checkedRooms limit room block store ⌝ }
 {
     if maps::good_rooms(limit, room) {

@@ -1,2 +1,3 @@
 pub mod ResumeLaws
 pub mod AppendLaws
+pub mod BehindLaws

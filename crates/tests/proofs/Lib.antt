@@ -3,3 +3,4 @@ pub mod CleanLaws
 pub mod TwoLaws
 pub mod PassLaws
 pub mod ScanLaws
+pub mod BehindLaws

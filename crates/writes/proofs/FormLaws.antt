@@ -2,11 +2,10 @@
 use mathlib.Core.Path.{_≡_, refl, ap, _∙_}
 use mathlib.Core.List.{List, [], _∷_, _++_, append-assoc, map}
 use mathlib.Core.Option.{some}
-use Prim.Native.Nat.{ℕ, _+_, _-_, _≤_, _<_}
+use Prim.Native.Nat.{ℕ, _+_, _≤_}
 use native.Mathlib.Omega.{arith}
-use lib.ListN.{length, getD, take, drop, length-append}
-use Rattle.maps.specs.Places.{at, noField}
-use Rattle.lookups.proofs.SeekLaws.{live-cons, live-end}
+use lib.ListN.{length, length-append}
+use Rattle.maps.specs.Places.{at}
 use Rattle.maps.specs.declared.Field.{Field}
 use Rattle.maps.specs.declared.Place.{Place}
 use Rattle.maps.specs.declared.Status.{Status}
@@ -60,30 +59,29 @@ module _ (b s : List ℕ) (st : Status) where
     pub line-length : (length r ≡ 0 → ⊥) → length (statusLine (statusAt b s st)) ≡ length r + 2
     line-length z = ap length (line-full z) ∙ length-append r crlf
 
--- the lines of the live fields
-module _ (b s : List ℕ) (t : List Field) (n i : ℕ) (w : n ≤ length t) where
-  pub lines-more : i < n → pairLines (map (pairAt b s) (drop i (take n t))) ≡
-      pairLine (at b s (getD t i noField .key)) (at b s (getD t i noField .value)) ++ pairLines (map (pairAt b s) (drop (i + 1) (take n t)))
+-- the lines of fields, all of them being x and the rest
+module _ (b s : List ℕ) (x : Field) (all rest : List Field) (e : all ≡ x ∷ rest) (kt vt : List ℕ) (ke : kt ≡ at b s (x .key)) (ve : vt ≡ at b s (x .value)) where
+  turn : pairLines (map (pairAt b s) all) ≡ pairLine kt vt ++ pairLines (map (pairAt b s) rest)
   unfolding pairLines
-  lines-more h = rw (live-cons t n i w h)
+  turn = rw (e, ke, ve)
 
-  pub lines-end : n ≤ i → pairLines (map (pairAt b s) (drop i (take n t))) ≡ []
+  pub lines-length : length (pairLines (map (pairAt b s) all)) ≡ length (pairLine kt vt) + length (pairLines (map (pairAt b s) rest))
+  lines-length = ap length turn ∙ length-append (pairLine kt vt) (pairLines (map (pairAt b s) rest))
+
+  -- one turn of the loop that writes them
+  module _ (d₀ : List ℕ) (a : ℕ) (whole d : List ℕ) (k : ℕ) (inv : Writing d₀ a whole (pairLines (map (pairAt b s) all)) d k) where
+    pub fields-room : k + length (pairLine kt vt) ≤ length d
+    fields-room = omega (arith, inv .room, lines-length)
+
+    pub fields-step : (d₁ : List ℕ) (j : ℕ) → Put d d₁ k j (pairLine kt vt) → Writing d₀ a whole (pairLines (map (pairAt b s) rest)) d₁ j
+    fields-step d₁ j p = write-step d₀ a whole (pairLine kt vt) (pairLines (map (pairAt b s) rest)) d d₁ k j (rw turn at inv) p
+
+-- and none
+module _ (b s : List ℕ) (all : List Field) (e : all ≡ []) where
+  pub lines-none : pairLines (map (pairAt b s) all) ≡ []
   unfolding pairLines
-  lines-end h = rw (live-end t n i h)
+  lines-none = rw e
 
--- one turn of the loop over the fields
-module _ (b s : List ℕ) (t : List Field) (n i : ℕ) (w : n ≤ length t) (h : i < n) (d₀ : List ℕ) (a : ℕ) (whole d : List ℕ) (k : ℕ)
-    (kt vt : List ℕ) (ke : kt ≡ at b s (getD t i noField .key)) (ve : vt ≡ at b s (getD t i noField .value))
-    (inv : Writing d₀ a whole (pairLines (map (pairAt b s) (drop i (take n t)))) d k) where
-  turn : pairLines (map (pairAt b s) (drop i (take n t))) ≡ pairLine kt vt ++ pairLines (map (pairAt b s) (drop (i + 1) (take n t)))
-  turn = rw (ke, ve) (lines-more b s t n i w h)
-
-  pub fields-room : k + length (pairLine kt vt) ≤ length d
-  fields-room = omega (arith, inv .room, ap length turn, length-append (pairLine kt vt) (pairLines (map (pairAt b s) (drop (i + 1) (take n t)))))
-
-  pub fields-step : (e : List ℕ) (j : ℕ) → Put d e k j (pairLine kt vt) → Writing d₀ a whole (pairLines (map (pairAt b s) (drop (i + 1) (take n t)))) e j
-  fields-step e j p = write-step d₀ a whole (pairLine kt vt) (pairLines (map (pairAt b s) (drop (i + 1) (take n t)))) d e k j (rw turn at inv) p
-
-pub fields-end : (b s : List ℕ) (t : List Field) (n i : ℕ) → n ≤ length t → n ≤ i → (d₀ : List ℕ) (a : ℕ) (whole d : List ℕ) (k : ℕ) → a ≤ length d₀
-    → Writing d₀ a whole (pairLines (map (pairAt b s) (drop i (take n t)))) d k → Put d₀ d a k whole
-fields-end b s t n i w h d₀ a whole d k g inv = write-end d₀ a whole d k g (rw (lines-end b s t n i w h) at inv)
+  pub fields-end : (d₀ : List ℕ) (a : ℕ) (whole d : List ℕ) (k : ℕ) → a ≤ length d₀
+      → Writing d₀ a whole (pairLines (map (pairAt b s) all)) d k → Put d₀ d a k whole
+  fields-end d₀ a whole d k g inv = write-end d₀ a whole d k g (rw lines-none at inv)

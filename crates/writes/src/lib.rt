@@ -9,7 +9,7 @@ ghost use mathlib.Core.List.{_∷_, [], map};
 ghost use Prim.Native.Nat.{_+_, _≤_};
 ghost use lib.ListN.{length, take};
 ghost use Rattle.maps.specs.Said.{pairAt, statusAt};
-ghost use Rattle.writes.specs.Written.{Put, pairLine, pairLines, statusLine, rebuilding, untouched, writing, Is};
+ghost use Rattle.writes.specs.Written.{Put, pairLine, pairLines, statusLine, giving, rebuilding, untouched, writing, Is};
 
 pub enum Wrote {
     Count(usize),
@@ -26,7 +26,8 @@ fn put(out: &mut [u8], at: usize, text: &[u8]) -> usize
     end
 }
 
-fn put_two(out: &mut [u8], at: usize, x: u8, y: u8) -> usize
+// Writes two octets over the output from at on; answers where they end.
+pub fn put_two(out: &mut [u8], at: usize, x: u8, y: u8) -> usize
     requires { ⌜ at + 2 ≤ length (now out) ⌝ }
     ensures { λ r. ⌜ Put (now (out .entry)) (now (out .exit)) at r (x ∷ y ∷ []) ⌝ }
 {
@@ -35,8 +36,19 @@ fn put_two(out: &mut [u8], at: usize, x: u8, y: u8) -> usize
     at + 2
 }
 
+// Writes a text over the output's start, if the output holds it; 8 if it does not.
+pub fn give(out: &mut [u8], text: &[u8]) -> Wrote
+    ensures { λ r. ⌜ Is (giving (now (out .entry)) (now (text .entry))) r (now (out .exit)) ⌝ }
+{
+    if out.len() < text.len() {
+        return Wrote::Refused(Refusal::ShortOutput);
+    }
+    let k = put(out, 0, text);
+    Wrote::Count(k)
+}
+
 // Key, colon, space (all three only if the key is not empty), value, CR LF.
-fn put_pair(out: &mut [u8], at: usize, key: &[u8], value: &[u8]) -> usize
+pub fn put_pair(out: &mut [u8], at: usize, key: &[u8], value: &[u8]) -> usize
     requires { ⌜ at + length (pairLine (now key) (now value)) ≤ length (now out) ⌝ }
     ensures { λ r. ⌜ Put (now (out .entry)) (now (out .exit)) at r (pairLine (now (key .entry)) (now (value .entry))) ⌝ }
 {
@@ -50,7 +62,8 @@ fn put_pair(out: &mut [u8], at: usize, key: &[u8], value: &[u8]) -> usize
     put_two(out, c, 13, 10)
 }
 
-fn pair_length(key: &[u8], value: &[u8]) -> usize
+// How many octets that is.
+pub fn pair_length(key: &[u8], value: &[u8]) -> usize
     requires { ⌜ (length (now key) ≤ 4294967295) × (length (now value) ≤ 4294967295) ⌝ }
     ensures { λ r. ⌜ (r ≡ length (pairLine (now (key .entry)) (now (value .entry)))) × (r ≤ 8589934594) ⌝ }
 {
@@ -103,7 +116,8 @@ fn put_fields<'a>(
     k
 }
 
-fn status_length<'a>(s: Status, block: &'a [u8], store: &'a [u8]) -> usize
+// How long the status line is; 0 if the status is absent or empty.
+pub fn status_length<'a>(s: Status, block: &'a [u8], store: &'a [u8]) -> usize
     ensures { λ r. ⌜ (r ≡ length (statusLine (statusAt (now (block .entry)) (now (store .entry)) s))) × (r ≤ 4294967297) ⌝ }
 {
     match s {
@@ -118,7 +132,8 @@ fn status_length<'a>(s: Status, block: &'a [u8], store: &'a [u8]) -> usize
     }
 }
 
-fn put_status<'a>(out: &mut [u8], s: Status, block: &'a [u8], store: &'a [u8]) -> usize
+// Writes the status line over the output's start; answers where it ends.
+pub fn put_status<'a>(out: &mut [u8], s: Status, block: &'a [u8], store: &'a [u8]) -> usize
     requires { ⌜ length (statusLine (statusAt (now block) (now store) s)) ≤ length (now out) ⌝ }
     ensures { λ r. ⌜ Put (now (out .entry)) (now (out .exit)) 0 r (statusLine (statusAt (now (block .entry)) (now (store .entry)) s)) ⌝ }
 {
@@ -161,7 +176,7 @@ pub fn rebuild<'a>(m: HeaderMap, block: &'a [u8], store: &'a [u8], out: &mut [u8
 }
 
 // Unedited and not empty.
-fn is_untouched(edited: bool, count: usize) -> bool
+pub fn is_untouched(edited: bool, count: usize) -> bool
     ensures { λ r. ⌜ r ≡ untouched edited count ⌝ }
 {
     if edited { false } else { 0 < count }
@@ -176,11 +191,7 @@ pub fn write<'a>(m: HeaderMap, block: &'a [u8], store: &'a [u8], out: &mut [u8])
         Checked::Fine => {
             let count = m.count;
             if is_untouched(m.edited, count) {
-                if out.len() < count {
-                    return Wrote::Refused(Refusal::ShortOutput);
-                }
-                let k = put(out, 0, &block[0..count]);
-                return Wrote::Count(k);
+                return give(out, &block[0..count]);
             }
             rebuild(m, block, store, out)
         }

@@ -1,18 +1,17 @@
 -- `writes::fields_length` meets its contract. Assumes nothing.
-use Rattle.maps.specs.Places.{at, noField}
+use Rattle.lookups.proofs.SeekLaws.{live-cons, live-end}
 use mathlib.Core.List.{map}
 use native.Mathlib.Nat.{zero-add}
-use lib.ListN.{length-append}
 use Rattle.maps.specs.Said.{pairAt}
-use Rattle.writes.specs.Written.{pairLine, pairLines}
-use Rattle.writes.proofs.FormLaws.{lines-more, lines-end}
+use Rattle.writes.specs.Written.{pairLines}
+use Rattle.writes.proofs.FormLaws.{lines-length, lines-none}
 use borrow.Author.Needs.{needs}
 use Rattle.writes.proofs.fields_length.Statement.{statement}
 use Rattle.writes.proofs.fields_length.Tie as tie
 use native.Mathlib.Omega.{arith}
 use mathlib.Core.Path.{_≡_, ap}
 use Prim.Native.Nat.{_+_, _-_, _*_, _≤_, _<_}
-use lib.ListN.{length, getD, take, drop}
+use lib.ListN.{length, take, drop}
 
 abbrev Inv-loop : tie.InvT-loop
 Inv-loop n block store t sum₀ i₀ sum i = (i ≤ n) × (sum ≤ i * 8589934594) × (sum + length (pairLines (map (pairAt block store) (drop i (take n t)))) ≡ length (pairLines (map (pairAt block store) (take n t))))
@@ -53,27 +52,15 @@ loop-again c =
     let s = l .before .before .before .args in
     let w : s .n ≤ length (s .t1) = omega arith in
     let h : l .loop .i < s .n = omega arith in
-    let k = c .before .before .part .ensures .is in
-    let v = c .before .part2 .ensures .is in
-    let e : c .pair-length .result ≡ length (pairLine (at (s .block .now) (s .store .now) (getD (s .t1) (l .loop .i) noField .key)) (at (s .block .now) (s .store .now) (getD (s .t1) (l .loop .i) noField .value))) = rw (k, v) at (c .pair-length .ensures .0) in (
-      search needs,
-      omega (arith, c .pair-length .ensures .1),
-      omega (
-        arith,
-        e,
-        l .loop .inv .2,
-        ap length (lines-more (s .block .now) (s .store .now) (s .t1) (s .n) (l .loop .i) w h),
-        length-append (pairLine (at (s .block .now) (s .store .now) (getD (s .t1) (l .loop .i) noField .key)) (at (s .block .now) (s .store .now) (getD (s .t1) (l .loop .i) noField .value))) (pairLines (map (pairAt (s .block .now) (s .store .now)) (drop (l .loop .i + 1) (take (s .n) (s .t1))))),
-      ),
-    )
+    let e = lines-length (s .block .now) (s .store .now) _ _ _ (live-cons (s .t1) (s .n) (l .loop .i) w h) _ _ (c .before .before .part .ensures .is) (c .before .part2 .ensures .is) in
+    (search needs, omega (arith, c .pair-length .ensures .1), omega (arith, c .pair-length .ensures .0, l .loop .inv .2, e))
 
 returns : tie.Need-returns Inv-loop μ-loop
 returns c =
     let l = c .before in
     let s = l .before .before .before .args in
-    let w : s .n ≤ length (s .t1) = omega arith in
     let h : s .n ≤ l .loop .i = omega arith in
-    (omega (arith, l .loop .inv .2, ap length (lines-end (s .block .now) (s .store .now) (s .t1) (s .n) (l .loop .i) w h)), omega (arith, l .loop .inv .1))
+    (omega (arith, l .loop .inv .2, ap length (lines-none (s .block .now) (s .store .now) _ (live-end (s .t1) (s .n) (l .loop .i) h))), omega (arith, l .loop .inv .1))
 
 pub fields-length-spec : {M : Type 1} → statement M
 fields-length-spec =

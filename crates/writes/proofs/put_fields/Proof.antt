@@ -1,5 +1,6 @@
 -- `writes::put_fields` meets its contract. Assumes nothing.
 use Rattle.writes.proofs.FormLaws.{fields-room, fields-step, fields-end}
+use Rattle.lookups.proofs.SeekLaws.{live-cons, live-end}
 use mathlib.Core.List.{map}
 use Rattle.writes.specs.Written.{pairLines}
 use Rattle.maps.specs.Said.{pairAt}
@@ -38,7 +39,7 @@ put-pair-requires c κs =
     let s = l .before .before .before .before .args in
     let w : s .n ≤ length (s .t3) = omega arith in
     let h : l .loop .i < s .n = omega arith in
-    fields-room (s .block .now) (s .store .now) (s .t3) (s .n) (l .loop .i) w h _ _ _ _ _ _ _ (c .before .before .part .ensures .is) (c .before .part2 .ensures .is) (l .loop .inv .1)
+    fields-room (s .block .now) (s .store .now) _ _ _ (live-cons (s .t3) (s .n) (l .loop .i) w h) _ _ (c .before .before .part .ensures .is) (c .before .part2 .ensures .is) _ _ _ _ _ (l .loop .inv .1)
 
 add-i : tie.Need-add-i Inv-loop μ-loop
 add-i c = search needs
@@ -52,7 +53,7 @@ loop-again c =
     let s = l .before .before .before .before .args in
     let w : s .n ≤ length (s .t3) = omega arith in
     let h : l .loop .i < s .n = omega arith in
-    (search needs, fields-step (s .block .now) (s .store .now) (s .t3) (s .n) (l .loop .i) w h _ _ _ _ _ _ _ (c .before .before .before .before .before .part .ensures .is) (c .before .before .before .before .part2 .ensures .is) (l .loop .inv .1) _ _ (c .before .before .put-pair .ensures))
+    (search needs, fields-step (s .block .now) (s .store .now) _ _ _ (live-cons (s .t3) (s .n) (l .loop .i) w h) _ _ (c .before .before .before .before .before .part .ensures .is) (c .before .before .before .before .part2 .ensures .is) _ _ _ _ _ (l .loop .inv .1) _ _ (c .before .before .put-pair .ensures))
 
 same-length : tie.Need-same-length Inv-loop μ-loop
 same-length c = c .before .loop .inv .1 .long
@@ -61,9 +62,8 @@ returns : tie.Need-returns Inv-loop μ-loop
 returns c =
     let l = c .before in
     let s = l .before .before .before .before .args in
-    let w : s .n ≤ length (s .t3) = omega arith in
     let h : s .n ≤ l .loop .i = omega arith in
-    fields-end (s .block .now) (s .store .now) (s .t3) (s .n) (l .loop .i) w h _ _ _ _ _ (omega arith) (l .loop .inv .1)
+    fields-end (s .block .now) (s .store .now) _ (live-end (s .t3) (s .n) (l .loop .i) h) _ _ _ _ _ (omega arith) (l .loop .inv .1)
 
 pub put-fields-spec : {M : Type 1} → statement M
 put-fields-spec =

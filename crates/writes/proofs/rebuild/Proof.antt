@@ -1,11 +1,11 @@
 -- `writes::rebuild` meets its contract. Assumes nothing.
 use Rattle.maps.proofs.GoodLaws.{ready-of}
-use Rattle.writes.proofs.WriteLaws.{rebuild-refused, rebuild-short, rebuild-done}
+use Rattle.writes.proofs.WriteLaws.{rebuild-refused, rebuild-fine, form-short, form-done}
 use borrow.Author.Needs.{needs}
 use Rattle.writes.proofs.rebuild.Statement.{statement}
 use Rattle.writes.proofs.rebuild.Tie as tie
 use native.Mathlib.Omega.{arith}
-use mathlib.Core.Path.{sym, _∙_}
+use mathlib.Core.Path.{refl, sym, _∙_}
 use Prim.Native.Nat.{_-_}
 
 check-done-requires : tie.Need-check-done-requires
@@ -36,8 +36,8 @@ returns c =
     let s = c .before .before .before .before .before .before .before .before .before .before .args in
     let m = s .m in
     let e = sym (c .before .before .before .before .enum-told .given .1) ∙ c .before .before .before .before .before .before .check-done .ensures in
-    let w = ready-of _ m (s .block .now) (s .store .now) e in
-    rebuild-short (s .m) (s .block .now) (s .store .now) (s .out .now) e (omega (arith, c .before .before .status-length .ensures .0, c .before .fields-length .ensures .0, c .if1 .taken))
+    rebuild-fine m (s .block .now) (s .store .now) (s .out .now) e
+    (form-short m _ refl (s .block .now) (s .store .now) (s .out .now) (omega (arith, c .before .before .status-length .ensures .0, c .before .fields-length .ensures .0, c .if1 .taken)))
 
 put-status-requires : tie.Need-put-status-requires
 put-status-requires c κs = search needs
@@ -64,8 +64,8 @@ returns-2 c =
     let s = c .before .before .before .before .before .before .before .before .before .before .before .before .before .before .before .before .before .before .before .before .before .before .args in
     let m = s .m in
     let e = sym (c .before .before .before .before .before .before .before .before .before .before .before .before .before .before .before .before .enum-told .given .1) ∙ c .before .before .before .before .before .before .before .before .before .before .before .before .before .before .before .before .before .before .check-done .ensures in
-    let w = ready-of _ m (s .block .now) (s .store .now) e in
-    rebuild-done (s .m) (s .block .now) (s .store .now) (s .out .now) e (omega (arith, c .before .before .before .before .before .before .before .before .before .before .before .before .before .before .status-length .ensures .0, c .before .before .before .before .before .before .before .before .before .before .before .before .before .fields-length .ensures .0, c .before .before .before .before .before .before .before .before .before .before .before .before .if1 .left)) _ _ _ _ _ _ (c .before .before .before .before .before .before .before .before .before .before .put-status .ensures) (c .before .before .before .before .before .before .put-fields .ensures) (c .before .before .put-two .ensures)
+    rebuild-fine m (s .block .now) (s .store .now) (s .out .now) e
+    (form-done m _ refl (s .block .now) (s .store .now) (s .out .now) (omega (arith, c .before .before .before .before .before .before .before .before .before .before .before .before .before .before .status-length .ensures .0, c .before .before .before .before .before .before .before .before .before .before .before .before .before .fields-length .ensures .0, c .before .before .before .before .before .before .before .before .before .before .before .before .if1 .left)) _ _ _ _ _ _ (c .before .before .before .before .before .before .before .before .before .before .put-status .ensures) (c .before .before .before .before .before .before .put-fields .ensures) (c .before .before .put-two .ensures))
 
 returns-3 : tie.Need-returns-3
 returns-3 c = rebuild-refused _ _ _ _ _ (sym (c .before .s .given .1) ∙ c .before .before .before .check-done .ensures)

@@ -1,18 +1,16 @@
 -- `abi::telling::bisquecrow_clean` meets its contract. Assumes nothing.
-use Rattle.leaves.proofs.ChoiceLaws.{if-true, if-false}
-use Rattle.tests.specs.Answers.{told as testOf}
-use Rattle.encoded.proofs.WholeLaws.{sound-long}
-use borrow.Author.Needs.{needs}
 use Rattle.abi.proofs.telling.bisquecrow_clean.Statement.{statement}
 use Rattle.abi.proofs.telling.bisquecrow_clean.Tie as tie
-use native.Mathlib.Omega.{arith}
-use mathlib.Core.Path.{sym, ap, _∙_}
+use Rattle.abi.proofs.TellLaws.{clean-live}
+use Rattle.leaves.proofs.ChoiceLaws.{if-false}
+use borrow.Author.Needs.{needs}
+use mathlib.Core.Path.{sym, _∙_}
 
 is-sound-requires : tie.Need-is-sound-requires
 is-sound-requires c κs = search needs
 
-decode-requires : tie.Need-decode-requires
-decode-requires c κs = omega (arith, sound-long _ _ (c .before .is-sound .ensures) (c .if1 .taken))
+live-at-requires : tie.Need-live-at-requires
+live-at-requires c κs = sym (c .before .is-sound .ensures) ∙ c .if1 .taken
 
 clean-requires : tie.Need-clean-requires
 clean-requires c κs = search needs
@@ -21,7 +19,9 @@ tested-requires : tie.Need-tested-requires
 tested-requires c κs = search needs
 
 returns : tie.Need-returns
-returns c = c .tested .ensures ∙ ap testOf (rw (c .before .before .decode .ensures) at (c .before .clean .ensures)) ∙ sym (if-true _ _ (sym (c .before .before .before .before .is-sound .ensures) ∙ c .before .before .before .if1 .taken))
+returns c =
+    let a = c .before .before .before .before .before .before .before .before .before .args in
+    clean-live (a .head .now) (a .table .now) (a .block .now) (a .store .now) _ (c .before .before .live-at .ensures) _ _ (sym (c .before .before .before .before .is-sound .ensures) ∙ c .before .before .before .if1 .taken) (c .before .clean .ensures) (c .tested .ensures)
 
 returns-2 : tie.Need-returns-2
 returns-2 c = sym (if-false _ _ (sym (c .before .is-sound .ensures) ∙ c .if1 .left))
@@ -29,4 +29,4 @@ returns-2 c = sym (if-false _ _ (sym (c .before .is-sound .ensures) ∙ c .if1 .
 pub bisquecrow-clean-spec : {M : Type 1} → statement M
 bisquecrow-clean-spec =
     tie.close
-    (tie.spec is-sound-requires decode-requires clean-requires tested-requires returns returns-2)
+    (tie.spec is-sound-requires live-at-requires clean-requires tested-requires returns returns-2)

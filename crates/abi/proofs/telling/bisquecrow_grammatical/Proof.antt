@@ -1,8 +1,8 @@
 -- `abi::telling::bisquecrow_grammatical` meets its contract. Assumes nothing.
-use Rattle.leaves.proofs.ChoiceLaws.{if-true, if-false}
-use borrow.Author.Needs.{needs}
 use Rattle.abi.proofs.telling.bisquecrow_grammatical.Statement.{statement}
 use Rattle.abi.proofs.telling.bisquecrow_grammatical.Tie as tie
+use Rattle.leaves.proofs.ChoiceLaws.{if-true, if-false}
+use borrow.Author.Needs.{needs}
 use mathlib.Core.Path.{sym, _∙_}
 
 grammatical-requires : tie.Need-grammatical-requires

@@ -1,8 +1,8 @@
 -- `abi::telling::bisquecrow_tidy` meets its contract. Assumes nothing.
-use Rattle.tests.specs.Answers.{told as testOf}
-use borrow.Author.Needs.{needs}
 use Rattle.abi.proofs.telling.bisquecrow_tidy.Statement.{statement}
 use Rattle.abi.proofs.telling.bisquecrow_tidy.Tie as tie
+use Rattle.tests.specs.Answers.{told as testOf}
+use borrow.Author.Needs.{needs}
 use mathlib.Core.Path.{ap, _∙_}
 
 tidy-requires : tie.Need-tidy-requires

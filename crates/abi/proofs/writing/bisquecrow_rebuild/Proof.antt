@@ -1,23 +1,21 @@
 -- `abi::writing::bisquecrow_rebuild` meets its contract. Assumes nothing.
-use Rattle.abi.proofs.CallLaws.{put-sound, put-damaged}
-use Rattle.abi.specs.Calls.{countNumber}
-use Rattle.writes.specs.Answers.{told as wroteOf}
-use Rattle.writes.specs.declared.Wrote.{Wrote}
-use Rattle.encoded.proofs.WholeLaws.{sound-long}
-use borrow.Author.Needs.{needs}
 use Rattle.abi.proofs.writing.bisquecrow_rebuild.Statement.{statement}
 use Rattle.abi.proofs.writing.bisquecrow_rebuild.Tie as tie
-use native.Mathlib.Omega.{arith}
-use mathlib.Core.Path.{sym, ap, _∙_}
+use Rattle.lent.proofs.LentLaws.{sound-parts}
+use Rattle.abi.proofs.CallLaws.{put-damaged}
+use Rattle.abi.proofs.TellLaws.{put-head}
+use Rattle.writes.specs.Written.{rebuilding}
+use borrow.Author.Needs.{needs}
+use mathlib.Core.Path.{sym, _∙_}
 
 is-sound-requires : tie.Need-is-sound-requires
 is-sound-requires c κs = search needs
 
-decode-requires : tie.Need-decode-requires
-decode-requires c κs = omega (arith, sound-long _ _ (c .before .is-sound .ensures) (c .if1 .taken))
+head-at-requires : tie.Need-head-at-requires
+head-at-requires c κs = sound-parts _ _ (sym (c .before .is-sound .ensures) ∙ c .if1 .taken) .0
 
 rebuild-requires : tie.Need-rebuild-requires
-rebuild-requires c κs = search needs
+rebuild-requires c κs = sound-parts _ _ (sym (c .before .before .before .is-sound .ensures) ∙ c .before .before .if1 .taken) .1
 
 put-count-requires : tie.Need-put-count-requires
 put-count-requires c κs = search needs
@@ -30,8 +28,9 @@ same-length c = search needs
 
 returns : tie.Need-returns
 returns c =
-    let e = rw (c .before .before .before .before .before .before .before .decode .ensures) at (c .before .before .before .before .before .rebuild .ensures) in
-    put-sound _ _ _ _ _ _ _ (sym (c .before .before .before .before .before .before .before .before .before .is-sound .ensures) ∙ c .before .before .before .before .before .before .before .before .if1 .taken) (c .wrote .ensures ∙ ap wroteOf (e .result)) (c .before .put-count .ensures ∙ ap (λ (x : Wrote). countNumber x (c .before .before .before .before .before .before .before .before .before .before .before .before .before .before .args .count .now)) (e .result)) (e .out)
+    let a = c .before .before .before .before .before .before .before .before .before .before .before .before .before .before .before .args in
+    let w = sym (c .before .before .before .before .before .before .before .before .before .is-sound .ensures) ∙ c .before .before .before .before .before .before .before .before .if1 .taken in
+    put-head (a .head .now) (a .table .now) (a .block .now) (a .store .now) _ w (c .before .before .before .before .before .before .before .head-at .ensures) rebuilding _ (a .out .now) _ (a .count .now) _ _ (c .before .before .before .before .before .rebuild .ensures) (c .wrote .ensures) (c .before .put-count .ensures)
 
 returns-2 : tie.Need-returns-2
 returns-2 c = put-damaged _ _ _ _ (sym (c .before .is-sound .ensures) ∙ c .if1 .left)
@@ -41,7 +40,7 @@ bisquecrow-rebuild-spec =
     tie.close
     (tie.spec
     is-sound-requires
-    decode-requires
+    head-at-requires
     rebuild-requires
     put-count-requires
     wrote-requires

@@ -1,0 +1,2 @@
+pub mod ThinLaws
+pub mod PutInLaws

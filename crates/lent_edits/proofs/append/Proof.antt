@@ -1,0 +1,54 @@
+-- `lent_edits::append` meets its contract. Assumes nothing.
+use Rattle.edits.specs.Edits.{appending}
+use Rattle.edits.proofs.EditLaws.{is-by, edit-refused, append-is}
+use borrow.Author.Needs.{needs}
+use Rattle.lent_edits.proofs.append.Statement.{statement}
+use Rattle.lent_edits.proofs.append.Tie as tie
+use native.Mathlib.Omega.{arith}
+use mathlib.Core.Path.{sym, _∙_}
+
+check-done-requires : tie.Need-check-done-requires
+check-done-requires c κs = search needs
+
+enum-told : tie.Need-enum-told
+enum-told c = search needs
+
+put-at-requires : tie.Need-put-at-requires
+put-at-requires c κs = (c .before .before .before .before .before .before .before .before .before .before .before .before .pre, sym (c .before .before .enum-told .given .1) ∙ c .before .before .before .before .check-done .ensures, omega arith)
+
+enum-known-s : tie.Need-enum-known-s
+enum-known-s c = search needs
+
+same-length : tie.Need-same-length
+same-length c = search needs
+
+same-length-2 : tie.Need-same-length-2
+same-length-2 c = search needs
+
+returns : tie.Need-returns
+returns c = is-by (append-is _ _ _ _ _ (sym (c .before .before .before .before .before .before .before .enum-told .given .1) ∙ c .before .before .before .before .before .before .before .before .before .check-done .ensures)) (c .before .before .before .before .put-at .ensures)
+
+same-length-3 : tie.Need-same-length-3
+same-length-3 c = search needs
+
+same-length-4 : tie.Need-same-length-4
+same-length-4 c = search needs
+
+returns-2 : tie.Need-returns-2
+unfolding appending
+returns-2 c = edit-refused _ _ _ _ _ (sym (c .before .s .given .1) ∙ c .before .before .before .check-done .ensures)
+
+pub append-spec : {M : Type 1} → statement M
+append-spec =
+    tie.close
+    (tie.spec
+    check-done-requires
+    enum-told
+    put-at-requires
+    enum-known-s
+    same-length
+    same-length-2
+    returns
+    same-length-3
+    same-length-4
+    returns-2)
