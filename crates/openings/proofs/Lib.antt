@@ -1,1 +1,2 @@
 pub mod OpenLaws
+pub mod SightLaws

@@ -1,37 +1,34 @@
 -- What a header opens, case by case. Assumes nothing.
 use mathlib.Core.Path.{_≡_, refl, sym, ap, _∙_}
 use mathlib.Core.Bool.{Bool, true, false}
-use mathlib.Core.List.{List}
+use mathlib.Core.List.{List, []}
 use mathlib.Core.Option.{Option, none, some}
 use Prim.Native.Nat.{ℕ, min, _≤_, _<_}
 use native.Mathlib.Omega.{arith}
 use borrow.Author.Tests.{le-leb, lt-leb, leb-true, leb-false}
 use lib.Dec.{leb}
-use Rattle.leaves.proofs.ChoiceLaws.{if-true, if-false, and-left, and-right, clash}
+use Rattle.leaves.proofs.ChoiceLaws.{if-true, if-false, and-left, and-right}
 use Rattle.leaves.specs.Octets.{sameList}
 use Rattle.leaves.specs.Number.{decimal, isDecimal, contentLength}
 use Rattle.leaves.specs.Trim.{trimmed, trimEnd, trimStart, leading}
 use Rattle.leaves.specs.declared.refusals.Refusal.{Refusal}
 use Rattle.leaves.specs.declared.refusals.Refusal.the-variants.{BadVersion, BadLength}
 use Rattle.standard.specs.Names.{nameOf}
-use Rattle.standard.specs.Types.{typeCode}
 use Rattle.standard.specs.declared.names.WarcHeader.the-variants.{WarcType, ContentLength}
+use Rattle.maps.specs.Places.{at}
 use Rattle.maps.specs.Good.{checkedDone}
+use Rattle.maps.specs.declared.Place.{Place}
+use Rattle.maps.specs.declared.Status.the-variants.{Absent, At}
 use Rattle.maps.specs.declared.Checked.the-variants.{Fine, Refused as Bad}
 use Rattle.maps.specs.declared.HeaderMap.{HeaderMap}
 use Rattle.maps.proofs.GoodLaws.{goes-on, refused-by}
-use Rattle.maps.specs.Said.{textOf, saying}
-use Rattle.lookups.specs.Lookups.{finding, statusPlace, valuePlace, handedOut}
-use Rattle.lookups.specs.declared.Found.{Found}
-use Rattle.lookups.specs.declared.Found.the-variants.{At, Missing, Refused as NotLooked}
-use Rattle.lookups.proofs.HandLaws.{text-says}
-use Rattle.codes.specs.Codes.{kindOf}
-use Rattle.codes.specs.declared.Kind.the-variants.{Is as IsKind, Refused as NoKind}
-use Rattle.codes.proofs.MapLaws.{kind-found, kind-missing}
+use Rattle.maps.specs.Said.{Said, textOf, saying}
 use Rattle.openings.specs.Opening.{longest, versionText, isVersion, isLength, typeOf, opened, opening}
+use Rattle.openings.specs.Sights.{spotted, lengthText, kindCode, openedBy, openedAt}
 use Rattle.openings.specs.declared.Opening.the-variants.{Record, Refused}
-use Rattle.singles.specs.Single.{valuesOf, onlyValue, single}
-use Rattle.singles.proofs.FieldLaws.{values-missing, values-found, never-refused, single-is}
+use Rattle.openings.specs.declared.Spots.{Spots}
+use Rattle.openings.proofs.SightLaws.{only-seen, type-seen}
+use Rattle.singles.specs.Single.{valuesOf, onlyValue}
 
 -- a number that is capped by what fits 64 bits
 module _ (v : List ℕ) (n : ℕ) (d : isDecimal v ≡ true) (e : n ≡ contentLength v) where
@@ -68,55 +65,51 @@ length-is v n t e =
     let c : n ≡ min (decimal v) 18446744073709551615 = capped v n d e in
     omega arith
 
+-- what texts open
+module _ (t v : List ℕ) (k : ℕ) (x : List ℕ) (e : x ≡ trimmed t) where
+  pub texts-nine : versionText x ≡ false → Refused BadVersion ≡ openedBy t v k
+  unfolding openedBy
+  texts-nine f = sym (if-false _ _ (ap versionText (sym e) ∙ f))
+
+  module _ (f : versionText x ≡ true) where
+    pub texts-ten : isLength v ≡ false → Refused BadLength ≡ openedBy t v k
+    unfolding openedBy
+    texts-ten g = sym (if-true _ _ (ap versionText (sym e) ∙ f) ∙ if-false _ _ g)
+
+    pub texts-record : isLength v ≡ true → (n : ℕ) → n ≡ contentLength v → Record n k ≡ openedBy t v k
+    unfolding openedBy
+    texts-record g n h = ap (λ (d : ℕ). Record d k) (length-is v n g h) ∙ sym (if-true _ _ (ap versionText (sym e) ∙ f) ∙ if-true _ _ g)
+
+module _ (b s : List ℕ) (z : Spots) where
+  pub spots-nine : Refused BadVersion ≡ openedAt b s Absent z
+  unfolding openedAt trimEnd trimStart leading sameList
+  spots-nine = texts-nine [] (lengthText b s (z .lengths) (z .length)) (kindCode b s (z .kinds) (z .kind)) (trimmed []) refl refl
+
+  pub spots-texts : (p : Place) (t v : List ℕ) (k : ℕ) → t ≡ at b s p → v ≡ lengthText b s (z .lengths) (z .length) → k ≡ kindCode b s (z .kinds) (z .kind)
+      → openedBy t v k ≡ openedAt b s (At p) z
+  unfolding openedAt
+  spots-texts p t v k e f g = rw (e, f, g)
+
+version-by : (x : Option (List ℕ)) → versionText (trimmed (textOf x)) ≡ isVersion x
+unfolding sameList trimEnd trimStart leading
+version-by none = refl
+version-by (some t) = refl
+
+opened-by : (x : Said) (v : List ℕ) (k : ℕ) → v ≡ onlyValue (nameOf ContentLength) x → k ≡ typeOf (valuesOf (nameOf WarcType) (x .pairs))
+    → openedBy (textOf (x .status)) v k ≡ opened x
+unfolding openedBy opened
+opened-by x v k e f = rw (version-by (x .status), e, f)
+
 module _ (m : HeaderMap) (b s : List ℕ) where
-  version-by : (x : Option (List ℕ)) → versionText (trimmed (textOf x)) ≡ isVersion x
-  unfolding sameList trimEnd trimStart leading
-  version-by none = refl
-  version-by (some t) = refl
+  -- a pass over the fields finds what a map opens
+  pub opened-spots : openedAt b s (m .status) (spotted b s (m .table) (m .fields)) ≡ opened (saying m b s)
+  unfolding openedAt spotted saying
+  opened-spots =
+      opened-by (saying m b s) _ _ (only-seen b s (nameOf ContentLength) (m .table) (m .fields)) (type-seen b s (nameOf WarcType) (m .table) (m .fields))
 
-  module _ (e : Fine ≡ checkedDone m b s) where
-    pub version-is : (t : List ℕ) → t ≡ trimmed (handedOut b s (statusPlace m b s)) → versionText t ≡ isVersion (saying m b s .status)
-    version-is t h = ap versionText (h ∙ ap trimmed (text-says m b s e)) ∙ version-by (saying m b s .status)
-
-    kind-is : kindOf m b s ≡ IsKind (typeOf (valuesOf (nameOf WarcType) (saying m b s .pairs)))
-    kind-is = by (finding m b s (nameOf WarcType) 0) refl
-      where
-        by : (f : Found) → finding m b s (nameOf WarcType) 0 ≡ f → kindOf m b s ≡ IsKind (typeOf (valuesOf (nameOf WarcType) (saying m b s .pairs)))
-        by (At i) g = sym (kind-found m b s i (handedOut b s (valuePlace m b s i)) (typeCode (handedOut b s (valuePlace m b s i))) refl g refl) ∙ ap (λ (vs : List (List ℕ)). IsKind (typeOf vs)) (sym (values-found m b s (nameOf WarcType) e i g))
-        by Missing g = sym (kind-missing m b s g) ∙ ap (λ (vs : List (List ℕ)). IsKind (typeOf vs)) (sym (values-missing m b s (nameOf WarcType) e g))
-        by (NotLooked x) g = never-refused m b s (nameOf WarcType) e 0 x g
-
-    pub opens-record : (t v : List ℕ) (n k : ℕ) → t ≡ trimmed (handedOut b s (statusPlace m b s)) → versionText t ≡ true
-        → v ≡ single m b s (nameOf ContentLength) → isLength v ≡ true → n ≡ contentLength v → kindOf m b s ≡ IsKind k
-        → Record n k ≡ opened (saying m b s)
-    unfolding opened
-    opens-record t v n k p q d g h i =
-        let f : v ≡ onlyValue (nameOf ContentLength) (saying m b s) = d ∙ single-is m b s (nameOf ContentLength) e in
-        let u : isVersion (saying m b s .status) ≡ true = sym (version-is t p) ∙ q in
-        let l : isLength (onlyValue (nameOf ContentLength) (saying m b s)) ≡ true = ap isLength (sym f) ∙ g in
-        let c : n ≡ decimal (onlyValue (nameOf ContentLength) (saying m b s)) = length-is v n g h ∙ ap decimal f in
-        let j : k ≡ typeOf (valuesOf (nameOf WarcType) (saying m b s .pairs)) = cc kind-is in
-        ap (λ (x : ℕ). Record x k) c ∙ ap (Record (decimal (onlyValue (nameOf ContentLength) (saying m b s)))) j ∙ sym (if-true _ _ u ∙ if-true _ _ l)
-
-    pub kind-refuses : {A : Type 0} (x : Refusal) → kindOf m b s ≡ NoKind x → A
-    kind-refuses x i = clash (cc kind-is)
-
-    pub opens-ten : (t v : List ℕ) → t ≡ trimmed (handedOut b s (statusPlace m b s)) → versionText t ≡ true
-        → v ≡ single m b s (nameOf ContentLength) → isLength v ≡ false → Refused BadLength ≡ opened (saying m b s)
-    unfolding opened
-    opens-ten t v p q d g =
-        let f : v ≡ onlyValue (nameOf ContentLength) (saying m b s) = d ∙ single-is m b s (nameOf ContentLength) e in
-        let u : isVersion (saying m b s .status) ≡ true = sym (version-is t p) ∙ q in
-        let l : isLength (onlyValue (nameOf ContentLength) (saying m b s)) ≡ false = ap isLength (sym f) ∙ g in
-        sym (if-true _ _ u ∙ if-false _ _ l)
-
-    pub opens-nine : (t : List ℕ) → t ≡ trimmed (handedOut b s (statusPlace m b s)) → versionText t ≡ false → Refused BadVersion ≡ opened (saying m b s)
-    unfolding opened
-    opens-nine t p q = sym (if-false _ _ (sym (version-is t p) ∙ q))
-
-    pub opening-goes : opening m b s ≡ opened (saying m b s)
-    unfolding opening
-    opening-goes = goes-on Refused _ _ e
+  pub opening-goes : Fine ≡ checkedDone m b s → opening m b s ≡ opened (saying m b s)
+  unfolding opening
+  opening-goes e = goes-on Refused _ _ e
 
   pub opening-refused : (x : Refusal) → Bad x ≡ checkedDone m b s → opening m b s ≡ Refused x
   unfolding opening

@@ -26,7 +26,7 @@ use Rattle.lookups.proofs.SeekLaws.{find-fine, find-refused}
 use Rattle.lookups.proofs.HandLaws.{slot-fine}
 use Rattle.singles.specs.Single.{valuesOf, onlyOf, onlyValue, single}
 
-abbrev worth : List ℕ → List ℕ → List ℕ → List Field → List (List ℕ)
+abbrev pub worth : List ℕ → List ℕ → List ℕ → List Field → List (List ℕ)
 worth b s name xs = valuesOf name (map (pairAt b s) xs)
 
 -- a search from number n on that found number i
@@ -38,11 +38,11 @@ record Hit (b s name : List ℕ) (n i : ℕ) (xs : List Field) : Type 0 where
 
 module _ (b s name : List ℕ) where
   module _ (x : Field) (xs : List Field) where
-    values-hit : named b s name x ≡ true → worth b s name (x ∷ xs) ≡ at b s (x .value) ∷ worth b s name xs
+    pub values-hit : named b s name x ≡ true → worth b s name (x ∷ xs) ≡ at b s (x .value) ∷ worth b s name xs
     unfolding valuesOf named if_then_else_
     values-hit e = rw e
 
-    values-skip : named b s name x ≡ false → worth b s name (x ∷ xs) ≡ worth b s name xs
+    pub values-skip : named b s name x ≡ false → worth b s name (x ∷ xs) ≡ worth b s name xs
     unfolding valuesOf named if_then_else_
     values-skip e = rw e
 
@@ -54,7 +54,7 @@ module _ (b s name : List ℕ) where
     unfolding seeking if_then_else_
     seek-on n e = rw e
 
-  no-values : worth b s name [] ≡ []
+  pub no-values : worth b s name [] ≡ []
   unfolding valuesOf
   no-values = refl
 

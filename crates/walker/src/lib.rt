@@ -1,19 +1,21 @@
 // The record walker: header, body, trailer, again.
+pub mod turns;
+
 use leaves::refusals::Refusal;
 use maps::Checked;
+use maps::Head;
 use maps::HeaderMap;
-use maps::Phase;
-use maps::Status;
 use openings::Opening;
 use reader::Answer;
 ghost use mathlib.Core.Path.{_≡_};
-ghost use Prim.Native.Nat.{_+_, _≤_, min};
-ghost use lib.ListN.{length, take, drop};
+ghost use Prim.Native.Nat.{_+_, _≤_};
+ghost use lib.ListN.{length};
+ghost use Rattle.maps.specs.Good.{checked};
+ghost use Rattle.maps.specs.Heads.{under as underHead, headOf};
 ghost use Rattle.maps.specs.Maps.{Is};
 ghost use Rattle.openings.specs.Opening.{opening as openingOf};
-ghost use Rattle.walker.specs.declared.Stage.the-variants.{Stopped};
-ghost use Rattle.walker.specs.declared.Step.the-variants.{Refused};
-ghost use Rattle.walker.specs.Walk.{stands as standing, stopsAt, stopsInside, emptied as emptiedMap, fresh as freshMap, starting, resting, readyAt, checkedWalker, allowed as allowedOf, bodyWalked, common as commonOf, onward as onwardTo, trailerStage, trailerEnded, trailerWalked, walked as walkedTo, headerMore, openedAt, headerBy, headerRead, restWalked, betweenWalked, headerWalked, walkedOn, walking, stageEnded, ending};
+ghost use Rattle.walker.specs.Walk.{starting, readyAt, headerRead, walking, ending};
+ghost use Rattle.walker.specs.Trails.{walkerOf, trailOf, keptMap, withMap, Judged, headedBy};
 
 // The first position that is too far.
 pub const FURTHEST: u64 = 4611686018427387904;
@@ -63,144 +65,142 @@ pub enum Resting {
     Walks,
 }
 
-fn rests(stage: Stage) -> Resting
-    ensures { λ r. ⌜ r ≡ resting stage ⌝ }
-{
-    match stage {
-        Stage::Between => Resting::Walks,
-        Stage::Header => Resting::Walks,
-        Stage::Body => Resting::Walks,
-        Stage::Cr => Resting::Walks,
-        Stage::Lf => Resting::Walks,
-        Stage::LastCr => Resting::Walks,
-        Stage::LastLf => Resting::Walks,
-        Stage::Ended => Resting::Ended,
-        Stage::Stopped(e) => Resting::Stopped(e),
-    }
+// A walker but for its map.
+pub struct Trail {
+    pub position: u64,
+    pub rest: u64,
+    pub stage: Stage,
+    pub start: u64,
 }
 
-fn ready_at(stage: Stage, phase: Phase) -> bool
-    ensures { λ r. ⌜ r ≡ readyAt stage phase ⌝ }
-{
-    match stage {
-        Stage::Between => maps::is_done(phase),
-        Stage::Header => maps::is_reading(phase),
-        Stage::Body => maps::is_done(phase),
-        Stage::Cr => maps::is_done(phase),
-        Stage::Lf => maps::is_done(phase),
-        Stage::LastCr => maps::is_done(phase),
-        Stage::LastLf => maps::is_done(phase),
-        Stage::Ended => maps::is_done(phase),
-        Stage::Stopped(e) => maps::is_done(phase),
-    }
+// What a call keeps of the map: all, its rooms, or its rooms to read the next header.
+pub enum Kept {
+    Same,
+    Emptied,
+    Fresh,
 }
 
-// A walker's first checks: 3, 2, 7.
-fn check_walker(w: Walker, block: usize, store: usize) -> Checked
-    ensures { λ r. ⌜ r ≡ checkedWalker w block store ⌝ }
+// What a call did on the trail.
+pub struct Trailed {
+    pub trail: Trail,
+    pub taken: usize,
+    pub step: Step,
+    pub kept: Kept,
+}
+
+// Which way a walker goes: it begins a header or goes on with one, passes a body, or a trailer of which octets were taken.
+pub enum Way {
+    Begins,
+    GoesOn,
+    Passes,
+    Trails(usize),
+}
+
+// What a call has to do: no more, or to read octets of the piece, so many, of a header that begins at a position.
+pub enum Turn {
+    Stays(Trailed),
+    Reads(Kept, u64, usize),
+}
+
+// What the reader's answer came to, with what the map opens behind a blank line.
+pub enum Headed {
+    Goes,
+    Opens(Opening),
+    Input,
+    Shut(Refusal),
+}
+
+fn trail_of(w: Walker) -> Trail
+    ensures { λ r. ⌜ r ≡ trailOf w ⌝ }
 {
-    if openings::CAP < w.rest {
-        return Checked::Refused(Refusal::BadMap);
-    }
     let stage = w.stage;
-    let m = w.map;
-    let phase = m.phase;
-    let ready = ready_at(stage, phase);
-    maps::check(m, ready, block, store)
+    Trail {
+        position: w.position,
+        rest: w.rest,
+        stage,
+        start: w.start,
+    }
 }
 
-fn stand(w: Walker, step: Step) -> Walked
-    ensures { λ r. ⌜ r ≡ standing w step ⌝ }
+fn head_of(m: HeaderMap) -> Head
+    ensures { λ r. ⌜ r ≡ headOf m ⌝ }
 {
+    let status = m.status;
+    let phase = m.phase;
+    Head {
+        limit: m.limit,
+        room: m.room,
+        count: m.count,
+        line: m.line,
+        mark: m.mark,
+        fields: m.fields,
+        status,
+        awaits: m.awaits,
+        quirks: m.quirks,
+        edited: m.edited,
+        phase,
+    }
+}
+
+// The map of a map's table under another head.
+fn under(m: HeaderMap, h: Head) -> HeaderMap
+    ensures { λ r. ⌜ r ≡ underHead (m .table) h ⌝ }
+{
+    let status = h.status;
+    let phase = h.phase;
+    HeaderMap {
+        limit: h.limit,
+        room: h.room,
+        count: h.count,
+        line: h.line,
+        mark: h.mark,
+        fields: h.fields,
+        status,
+        awaits: h.awaits,
+        quirks: h.quirks,
+        edited: h.edited,
+        phase,
+        ..m
+    }
+}
+
+fn kept_map(m: HeaderMap, kept: Kept) -> HeaderMap
+    ensures { λ r. ⌜ r ≡ keptMap kept m ⌝ }
+{
+    let h = turns::kept_head(head_of(m), kept);
+    under(m, h)
+}
+
+// What a call gives that was made on the trail: the walker is built here alone, since a map that goes through a function is copied there.
+fn with_map(m: HeaderMap, r: Trailed) -> Walked
+    ensures { λ x. ⌜ x ≡ withMap m r ⌝ }
+{
+    let t = r.trail;
+    let stage = t.stage;
+    let kept = r.kept;
+    let step = r.step;
+    let map = kept_map(m, kept);
+    let walker = Walker {
+        map,
+        position: t.position,
+        rest: t.rest,
+        stage,
+        start: t.start,
+    };
     Walked {
-        walker: w,
-        taken: 0,
+        walker,
+        taken: r.taken,
         step,
     }
 }
 
-fn stop(w: Walker, e: Refusal) -> Walked
-    ensures { λ r. ⌜ r ≡ stopsAt w e ⌝ }
+// The map's first checks at a stage: 3, 2, 7.
+fn check_map(m: HeaderMap, stage: Stage, block: usize, store: usize) -> Checked
+    ensures { λ r. ⌜ r ≡ checked (readyAt stage (m .phase)) m block store ⌝ }
 {
-    let walker = Walker {
-        stage: Stage::Stopped(e),
-        ..w
-    };
-    Walked {
-        walker,
-        taken: 0,
-        step: Step::Refused(e),
-    }
-}
-
-fn emptied(m: HeaderMap) -> HeaderMap
-    ensures { λ r. ⌜ r ≡ emptiedMap m ⌝ }
-{
-    HeaderMap {
-        count: 0,
-        line: 0,
-        mark: 0,
-        fields: 0,
-        status: Status::Absent,
-        awaits: false,
-        quirks: false,
-        edited: false,
-        phase: Phase::Done,
-        ..m
-    }
-}
-
-fn fresh(m: HeaderMap) -> HeaderMap
-    ensures { λ r. ⌜ r ≡ freshMap m ⌝ }
-{
-    HeaderMap {
-        count: 0,
-        line: 0,
-        mark: 0,
-        fields: 0,
-        status: Status::Absent,
-        awaits: true,
-        quirks: false,
-        edited: false,
-        phase: Phase::Reading,
-        ..m
-    }
-}
-
-fn stop_inside(w: Walker, e: Refusal) -> Walked
-    ensures { λ r. ⌜ r ≡ stopsInside w e ⌝ }
-{
-    let m = w.map;
-    let map = emptied(m);
-    let walker = Walker {
-        map,
-        stage: Stage::Stopped(e),
-        ..w
-    };
-    Walked {
-        walker,
-        taken: 0,
-        step: Step::Refused(e),
-    }
-}
-
-fn lesser(n: usize, rest: u64) -> usize
-    ensures { λ r. ⌜ r ≡ min n rest ⌝ }
-{
-    if (n as u64) < rest {
-        return n;
-    }
-    rest as usize
-}
-
-// How many octets of a piece of n may be taken at a position.
-fn allowed(position: u64, n: usize) -> usize
-    ensures { λ r. ⌜ r ≡ allowedOf position n ⌝ }
-{
-    if position < FURTHEST {
-        return lesser(n, FURTHEST - position);
-    }
-    0
+    let phase = m.phase;
+    let ready = turns::ready_at(stage, phase);
+    maps::check(m, ready, block, store)
 }
 
 // A walker's start over a map that is used again; refused, the map is left as it was.
@@ -211,8 +211,7 @@ pub fn start(m: HeaderMap, room: usize, position: u64, block: &[u8], store: &[u8
     let answer = made.answer;
     match answer {
         Checked::Fine => {
-            let read = made.map;
-            let map = emptied(read);
+            let map = kept_map(made.map, Kept::Emptied);
             let walker = Walker {
                 map,
                 position,
@@ -243,244 +242,25 @@ pub fn start(m: HeaderMap, room: usize, position: u64, block: &[u8], store: &[u8
     }
 }
 
-// A body of which octets are left; k octets of the piece may be taken.
-fn walk_body(w: Walker, k: usize) -> Walked
-    requires { ⌜ w .position + k ≤ 18446744073709551615 ⌝ }
-    ensures { λ r. ⌜ r ≡ bodyWalked w k ⌝ }
-{
-    if k == 0 {
-        return stop(w, Refusal::TooFar);
-    }
-    let n = lesser(k, w.rest);
-    let walker = Walker {
-        position: w.position + (n as u64),
-        rest: w.rest - (n as u64),
-        stage: Stage::Body,
-        ..w
-    };
-    Walked {
-        walker,
-        taken: n,
-        step: Step::Body,
-    }
-}
-
-// How many octets two texts have in common from their beginning.
-fn common(x: &[u8], y: &[u8]) -> usize
-    ensures { λ r. ⌜ r ≡ commonOf (now (x .entry)) (now (y .entry)) ⌝ }
-{
-    let mut i = 0;
-    while i < x.len() {
-        if i < y.len() {
-            if x[i] == y[i] {
-                i += 1;
-            } else {
-                return i;
-            }
-        } else {
-            return i;
-        }
-    }
-    i
-}
-
-fn trailer_stage(k: usize) -> Stage
-    ensures { λ r. ⌜ r ≡ trailerStage k ⌝ }
-{
-    if k == 0 {
-        return Stage::Cr;
-    }
-    if k == 1 {
-        return Stage::Lf;
-    }
-    if k == 2 {
-        return Stage::LastCr;
-    }
-    Stage::LastLf
-}
-
-// A walker n octets further on.
-fn onward(w: Walker, stage: Stage, n: usize, step: Step) -> Walked
-    requires { ⌜ w .position + n ≤ 18446744073709551615 ⌝ }
-    ensures { λ r. ⌜ r ≡ onwardTo w stage n step ⌝ }
-{
-    let walker = Walker {
-        position: w.position + (n as u64),
-        stage,
-        ..w
-    };
-    Walked {
-        walker,
-        taken: n,
-        step,
-    }
-}
-
-// The same, stopped there.
-fn halt(w: Walker, e: Refusal, n: usize) -> Walked
-    requires { ⌜ w .position + n ≤ 18446744073709551615 ⌝ }
-    ensures { λ r. ⌜ r ≡ onwardTo w (Stopped e) n (Refused e) ⌝ }
-{
-    onward(w, Stage::Stopped(e), n, Step::Refused(e))
-}
-
-// The trailer from its octet number past on, of which the piece has the octets same in common, of k that may be taken.
-fn end_trailer(w: Walker, past: usize, k: usize, n: usize, same: usize) -> Walked
-    requires { ⌜ (w .position + k ≤ 18446744073709551615) × (same ≤ k) × (past + same ≤ 4) ⌝ }
-    ensures { λ r. ⌜ r ≡ trailerEnded w past k n same ⌝ }
-{
-    if past + same == 4 {
-        return onward(w, Stage::Between, same, Step::More);
-    }
-    if same < k {
-        return halt(w, Refusal::BadTrailer, same);
-    }
-    if k < n {
-        return halt(w, Refusal::TooFar, same);
-    }
-    let stage = trailer_stage(past + same);
-    onward(w, stage, same, Step::More)
-}
-
-// How many octets of the first k of a piece the trailer wants, from its octet number past on.
-fn trailer_octets(trailer: &[u8], past: usize, piece: &[u8], k: usize) -> usize
-    requires { ⌜ (past ≤ length (now trailer)) × (k ≤ length (now piece)) ⌝ }
-    ensures { λ r. ⌜ r ≡ commonOf (drop past (now (trailer .entry))) (take k (now (piece .entry))) ⌝ }
-{
-    common(&trailer[past..], &piece[0..k])
-}
-
-// A trailer of which past octets were taken.
-fn walk_trailer(w: Walker, past: usize, piece: &[u8]) -> Walked
-    requires { ⌜ past ≤ 4 ⌝ }
-    ensures { λ r. ⌜ r ≡ trailerWalked w past (now (piece .entry)) ⌝ }
-{
-    let k = allowed(w.position, piece.len());
-    let same = trailer_octets(b"\r\n\r\n", past, piece, k);
-    end_trailer(w, past, k, piece.len(), same)
-}
-
-fn walked_to(
-    map: HeaderMap,
-    position: u64,
-    rest: u64,
-    stage: Stage,
-    start: u64,
-    taken: usize,
-    step: Step,
-) -> Walked
-    ensures { λ r. ⌜ r ≡ walkedTo map position rest stage start taken step ⌝ }
-{
-    let walker = Walker {
-        map,
-        position,
-        rest,
-        stage,
-        start,
-    };
-    Walked {
-        walker,
-        taken,
-        step,
-    }
-}
-
-// A header that goes on, the reader having had k of a piece of n octets.
-fn header_goes_on(
-    map: HeaderMap,
-    position: u64,
-    rest: u64,
-    start: u64,
-    taken: usize,
-    k: usize,
-    n: usize,
-) -> Walked
-    ensures { λ r. ⌜ r ≡ headerMore map position rest start taken k n ⌝ }
-{
-    if k < n {
-        let map = emptied(map);
-        return walked_to(
-            map,
-            position,
-            rest,
-            Stage::Stopped(Refusal::TooFar),
-            start,
-            taken,
-            Step::Refused(Refusal::TooFar),
-        );
-    }
-    walked_to(map, position, rest, Stage::Header, start, taken, Step::More)
-}
-
-// A header that ended.
-fn header_opens<'a>(
-    map: HeaderMap,
-    position: u64,
-    rest: u64,
-    start: u64,
-    taken: usize,
-    block: &'a [u8],
-    store: &'a [u8],
-) -> Walked
-    ensures { λ r. ⌜ r ≡ openedAt map position rest start taken (openingOf map (now (block .entry)) (now (store .entry))) ⌝ }
-{
-    let opening = openings::open_record(map, block, store);
-    match opening {
-        Opening::Record(size, kind) => walked_to(
-            map,
-            position,
-            size,
-            Stage::Body,
-            start,
-            taken,
-            Step::Record(start, position, size, kind),
-        ),
-        Opening::Refused(e) => walked_to(
-            map,
-            position,
-            rest,
-            Stage::Stopped(e),
-            start,
-            taken,
-            Step::Refused(e),
-        ),
-    }
-}
-
-// What the reader's answer means for the walker, the reader having had k of a piece of n octets.
-fn after_header<'a>(
-    answer: Answer,
-    map: HeaderMap,
-    position: u64,
-    rest: u64,
-    start: u64,
-    taken: usize,
-    k: usize,
-    n: usize,
-    block: &'a [u8],
-    store: &'a [u8],
-) -> Walked
-    ensures { λ r. ⌜ r ≡ headerBy answer map position rest start taken k n (now (block .entry)) (now (store .entry)) ⌝ }
+// What an answer comes to. A map that was just fed was judged, and is good.
+fn comes_to<'a>(answer: Answer, m: HeaderMap, block: &'a [u8], store: &'a [u8]) -> Headed
+    requires { ⌜ Judged answer m (now block) (now store) ⌝ }
+    ensures { λ r. ⌜ r ≡ headedBy answer (openingOf m (now (block .entry)) (now (store .entry))) ⌝ }
 {
     match answer {
-        Answer::More => header_goes_on(map, position, rest, start, taken, k, n),
-        Answer::Blank => header_opens(map, position, rest, start, taken, block, store),
-        Answer::Input => walked_to(map, position, rest, Stage::Header, start, taken, Step::More),
-        Answer::Refused(e) => walked_to(
-            map,
-            position,
-            rest,
-            Stage::Stopped(e),
-            start,
-            taken,
-            Step::Refused(e),
-        ),
+        Answer::More => Headed::Goes,
+        Answer::Blank => {
+            let o = openings::open_good(m, block, store);
+            Headed::Opens(o)
+        }
+        Answer::Input => Headed::Input,
+        Answer::Refused(e) => Headed::Shut(e),
     }
 }
 
-// Reads k octets of a piece into a map.
+// Reads k octets of a piece into a map, of a header that begins at start.
 fn read_header(
-    w: Walker,
+    t: Trail,
     m: HeaderMap,
     start: u64,
     k: usize,
@@ -488,122 +268,36 @@ fn read_header(
     store: &mut [u8],
     piece: &[u8],
 ) -> Walked
-    requires { ⌜ (k ≤ length (now piece)) × (w .position + k ≤ 18446744073709551615) ⌝ }
-    ensures { λ r. ⌜ Is (headerRead w m start k (now (block .entry)) (now (store .entry)) (now (piece .entry))) r (now (block .exit)) (now (store .exit)) ⌝ }
+    requires { ⌜ (k ≤ length (now piece)) × (t .position + k ≤ 18446744073709551615) ⌝ }
+    ensures { λ r. ⌜ Is (headerRead (walkerOf m t) m start k (now (block .entry)) (now (store .entry)) (now (piece .entry))) r (now (block .exit)) (now (store .exit)) ⌝ }
 {
     let fed = reader::feed(m, block, store, &piece[0..k]);
-    let map = fed.map;
     let taken = fed.taken;
     let answer = fed.answer;
-    let position = w.position + (taken as u64);
-    after_header(
-        answer,
-        map,
-        position,
-        w.rest,
+    let h = comes_to(answer, fed.map, block, store);
+    let trail = Trail {
+        position: t.position + (taken as u64),
         start,
-        taken,
-        k,
-        piece.len(),
-        block,
-        store,
-    )
-}
-
-fn walk_between(w: Walker, block: &mut [u8], store: &mut [u8], piece: &[u8]) -> Walked
-    ensures { λ r. ⌜ Is (betweenWalked w (now (block .entry)) (now (store .entry)) (now (piece .entry))) r (now (block .exit)) (now (store .exit)) ⌝ }
-{
-    let k = allowed(w.position, piece.len());
-    if k == 0 {
-        return stop(w, Refusal::TooFar);
-    }
-    let old = w.map;
-    let m = fresh(old);
-    read_header(w, m, w.position, k, block, store, piece)
-}
-
-fn walk_header(w: Walker, block: &mut [u8], store: &mut [u8], piece: &[u8]) -> Walked
-    ensures { λ r. ⌜ Is (headerWalked w (now (block .entry)) (now (store .entry)) (now (piece .entry))) r (now (block .exit)) (now (store .exit)) ⌝ }
-{
-    let k = allowed(w.position, piece.len());
-    if k == 0 {
-        return stop_inside(w, Refusal::TooFar);
-    }
-    let m = w.map;
-    read_header(w, m, w.start, k, block, store, piece)
-}
-
-// A body, or the trailer behind a body of which nothing is left.
-fn walk_rest(w: Walker, piece: &[u8]) -> Walked
-    ensures { λ r. ⌜ r ≡ restWalked w (now (piece .entry)) ⌝ }
-{
-    if w.rest == 0 {
-        return walk_trailer(w, 0, piece);
-    }
-    let k = allowed(w.position, piece.len());
-    walk_body(w, k)
-}
-
-// A walker whose first checks are fine.
-fn walk_on(w: Walker, block: &mut [u8], store: &mut [u8], piece: &[u8]) -> Walked
-    ensures { λ r. ⌜ Is (walkedOn w (now (block .entry)) (now (store .entry)) (now (piece .entry))) r (now (block .exit)) (now (store .exit)) ⌝ }
-{
-    if piece.len() == 0 {
-        return stand(w, Step::More);
-    }
-    let stage = w.stage;
-    match stage {
-        Stage::Between => walk_between(w, block, store, piece),
-        Stage::Header => walk_header(w, block, store, piece),
-        Stage::Body => walk_rest(w, piece),
-        Stage::Cr => walk_trailer(w, 0, piece),
-        Stage::Lf => walk_trailer(w, 1, piece),
-        Stage::LastCr => walk_trailer(w, 2, piece),
-        Stage::LastLf => walk_trailer(w, 3, piece),
-        Stage::Ended => stand(w, Step::End),
-        Stage::Stopped(e) => stand(w, Step::Refused(e)),
-    }
+        ..t
+    };
+    let r = turns::behind_header(h, trail, taken, k, piece.len());
+    with_map(fed.map, r)
 }
 
 // Walks over a piece of the file.
 pub fn walk(w: Walker, block: &mut [u8], store: &mut [u8], piece: &[u8]) -> Walked
     ensures { λ r. ⌜ Is (walking w (now (block .entry)) (now (store .entry)) (now (piece .entry))) r (now (block .exit)) (now (store .exit)) ⌝ }
 {
-    let stage = w.stage;
-    match rests(stage) {
-        Resting::Stopped(e) => stand(w, Step::Refused(e)),
-        Resting::Ended => stand(w, Step::End),
-        Resting::Walks => match check_walker(w, block.len(), store.len()) {
-            Checked::Fine => walk_on(w, block, store, piece),
-            Checked::Refused(e) => stop(w, e),
-        },
-    }
-}
-
-fn end_stage(w: Walker) -> Walked
-    ensures { λ r. ⌜ r ≡ stageEnded (w .stage) w ⌝ }
-{
-    let stage = w.stage;
-    match stage {
-        Stage::Between => {
-            let walker = Walker {
-                stage: Stage::Ended,
-                ..w
-            };
-            Walked {
-                walker,
-                taken: 0,
-                step: Step::End,
-            }
+    let t = trail_of(w);
+    let stage = t.stage;
+    let c = check_map(w.map, stage, block.len(), store.len());
+    let turn = turns::turn(t, c, piece);
+    match turn {
+        Turn::Stays(r) => with_map(w.map, r),
+        Turn::Reads(kept, start, k) => {
+            let m = kept_map(w.map, kept);
+            read_header(t, m, start, k, block, store, piece)
         }
-        Stage::Header => stop_inside(w, Refusal::CutShort),
-        Stage::Body => stop(w, Refusal::CutShort),
-        Stage::Cr => stop(w, Refusal::CutShort),
-        Stage::Lf => stop(w, Refusal::CutShort),
-        Stage::LastCr => stop(w, Refusal::CutShort),
-        Stage::LastLf => stop(w, Refusal::CutShort),
-        Stage::Ended => stand(w, Step::End),
-        Stage::Stopped(e) => stand(w, Step::Refused(e)),
     }
 }
 
@@ -611,13 +305,9 @@ fn end_stage(w: Walker) -> Walked
 pub fn end(w: Walker, block: &[u8], store: &[u8]) -> Walked
     ensures { λ r. ⌜ Is (ending w (now (block .entry)) (now (store .entry))) r (now (block .entry)) (now (store .entry)) ⌝ }
 {
-    let stage = w.stage;
-    match rests(stage) {
-        Resting::Stopped(e) => stand(w, Step::Refused(e)),
-        Resting::Ended => stand(w, Step::End),
-        Resting::Walks => match check_walker(w, block.len(), store.len()) {
-            Checked::Fine => end_stage(w),
-            Checked::Refused(e) => stop(w, e),
-        },
-    }
+    let t = trail_of(w);
+    let stage = t.stage;
+    let c = check_map(w.map, stage, block.len(), store.len());
+    let r = turns::end_trail(t, c);
+    with_map(w.map, r)
 }

@@ -1,72 +1,28 @@
 -- `walker::end` meets its contract. Assumes nothing.
-use Rattle.walker.proofs.WalkLaws.{end-rests, end-over, end-checked, end-stopped}
 use borrow.Author.Needs.{needs}
+use Rattle.walker.proofs.TrailLaws.{end-trails}
 use Rattle.walker.proofs.end.Statement.{statement}
 use Rattle.walker.proofs.end.Tie as tie
-use mathlib.Core.Path.{sym, _∙_}
 use Prim.Native.Nat.{_-_}
 
-rests-requires : tie.Need-rests-requires
-rests-requires c κs = search needs
+trail-of-requires : tie.Need-trail-of-requires
+trail-of-requires c κs = search needs
 
-enum-known-e : tie.Need-enum-known-e
-enum-known-e c = search needs
+check-map-requires : tie.Need-check-map-requires
+check-map-requires c κs = search needs
 
-stand-requires : tie.Need-stand-requires
-stand-requires c κs = search needs
+end-trail-requires : tie.Need-end-trail-requires
+end-trail-requires c κs = search needs
 
-enum-told : tie.Need-enum-told
-enum-told c = search needs
-
-stand-requires-2 : tie.Need-stand-requires-2
-stand-requires-2 c κs = search needs
-
-enum-told-2 : tie.Need-enum-told-2
-enum-told-2 c = search needs
-
-check-walker-requires : tie.Need-check-walker-requires
-check-walker-requires c κs = search needs
-
-enum-told-3 : tie.Need-enum-told-3
-enum-told-3 c = search needs
-
-end-stage-requires : tie.Need-end-stage-requires
-end-stage-requires c κs = search needs
-
-enum-known-e-2 : tie.Need-enum-known-e-2
-enum-known-e-2 c = search needs
-
-stop-requires : tie.Need-stop-requires
-stop-requires c κs = search needs
+with-map-requires : tie.Need-with-map-requires
+with-map-requires c κs = search needs
 
 returns : tie.Need-returns
-returns c = let a = c .before .before .before .before .before .before .before .args in rw (c .stand .ensures) (end-rests (a .w) (a .block .now) (a .store .now) _ (c .before .before .before .before .rests .ensures) _ (c .before .before .e .given .1))
-
-returns-2 : tie.Need-returns-2
-returns-2 c = let a = c .before .before .before .before .before .before .args in rw (c .stand2 .ensures) (end-over (a .w) (a .block .now) (a .store .now) _ (c .before .before .before .rests .ensures) (c .before .enum-told .given .1))
-
-returns-3 : tie.Need-returns-3
-returns-3 c = let a = c .before .before .before .before .before .before .before .before .before .args in end-checked (a .w) (a .block .now) (a .store .now) _ (c .before .before .before .before .before .before .rests .ensures) (c .before .before .before .before .enum-told2 .given .1) (sym (c .before .enum-told3 .given .1) ∙ c .before .before .before .check-walker .ensures) _ (c .end-stage .ensures)
-
-returns-4 : tie.Need-returns-4
-returns-4 c = let a = c .before .before .before .before .before .before .before .before .before .before .args in rw (c .stop .ensures) (end-stopped (a .w) (a .block .now) (a .store .now) _ (c .before .before .before .before .before .before .before .rests .ensures) (c .before .before .before .before .before .enum-told2 .given .1) _ (sym (c .before .before .e2 .given .1) ∙ c .before .before .before .before .check-walker .ensures))
+returns c =
+    let a = c .before .before .before .before .before .before .args in
+    end-trails (a .w) (a .block .now) (a .store .now) _ (c .before .before .before .trail-of .ensures) _ (c .before .before .check-map .ensures) (c .before .end-trail .result) (c .before .end-trail .ensures) _ (c .with-map .ensures)
 
 pub end-spec : {M : Type 1} → statement M
 end-spec =
     tie.close
-    (tie.spec
-    rests-requires
-    enum-known-e
-    stand-requires
-    enum-told
-    stand-requires-2
-    enum-told-2
-    check-walker-requires
-    enum-told-3
-    end-stage-requires
-    enum-known-e-2
-    stop-requires
-    returns
-    returns-2
-    returns-3
-    returns-4)
+    (tie.spec trail-of-requires check-map-requires end-trail-requires with-map-requires returns)
