@@ -55,14 +55,14 @@ module _ (g : Given Walked) (x : Walked) (w n t b s : List ℕ) (i : Is g x b s)
   started-fine w′ n′ e k j =
       record {
         out =
-          record {
-            answer = sym e ∙ ap (λ (y : Walked). startAnswer (y .step)) (i .result);
-            numbers = refl;
-            head = k ∙ goes (x .step) n _ e ∙ ap (λ (y : Walked). started (y .step) n (headNumbers (headIn (y .walker .map)))) (i .result);
-            table = refl;
-            block = i .block;
-            store = i .store;
-          };
+            record {
+              answer = sym e ∙ ap (λ (y : Walked). startAnswer (y .step)) (i .result);
+              numbers = refl;
+              head = k ∙ goes (x .step) n _ e ∙ ap (λ (y : Walked). started (y .step) n (headNumbers (headIn (y .walker .map)))) (i .result);
+              table = refl;
+              block = i .block;
+              store = i .store;
+            };
         trail = j ∙ goes (x .step) w _ e ∙ ap (λ (y : Walked). started (y .step) w (trailIn (y .walker))) (i .result);
       }
 
@@ -70,14 +70,14 @@ module _ (g : Given Walked) (x : Walked) (w n t b s : List ℕ) (i : Is g x b s)
   started-refused r f h =
       record {
         out =
-          record {
-            answer = h ∙ ap (λ (y : Walked). startAnswer (y .step)) (i .result);
-            numbers = refl;
-            head = stays (x .step) n (headNumbers (headIn (x .walker .map))) f ∙ ap (λ (y : Walked). started (y .step) n (headNumbers (headIn (y .walker .map)))) (i .result);
-            table = refl;
-            block = i .block;
-            store = i .store;
-          };
+            record {
+              answer = h ∙ ap (λ (y : Walked). startAnswer (y .step)) (i .result);
+              numbers = refl;
+              head = stays (x .step) n (headNumbers (headIn (x .walker .map))) f ∙ ap (λ (y : Walked). started (y .step) n (headNumbers (headIn (y .walker .map)))) (i .result);
+              table = refl;
+              block = i .block;
+              store = i .store;
+            };
         trail = stays (x .step) w (trailIn (x .walker)) f ∙ ap (λ (y : Walked). started (y .step) w (trailIn (y .walker))) (i .result);
       }
 
@@ -88,8 +88,8 @@ module _ (o : Went) (z w n t b s : List ℕ) (c d : Bool) where
   nowhere : (c && d) ≡ false → Goes (if c && d then o else lost z w n t b s) 3 z w n t b s
   nowhere e = rw (if-false o (lost z w n t b s) e) (record { out = record { answer = refl; numbers = refl; head = refl; table = refl; block = refl; store = refl }; trail = refl })
 
-  pub goes-no-map : d ≡ false → Goes (if c && d then o else lost z w n t b s) 3 z w n t b s
-  goes-no-map e = nowhere (and-false c d e)
+  pub goes-no-map : c ≡ true → d ≡ false → Goes (if c && d then o else lost z w n t b s) 3 z w n t b s
+  goes-no-map f e = nowhere (and-false c d e)
 
   pub goes-no-trail : c ≡ false → Goes (if c && d then o else lost z w n t b s) 3 z w n t b s
   goes-no-trail e = nowhere (rw e)

@@ -209,14 +209,14 @@ abbrev pub startedOut : List ℕ → List ℕ → List ℕ → Given Walked → 
 startedOut w n t g =
     record {
       out =
-        record {
-          answer = startAnswer (g .result .step);
-          numbers = [];
-          head = started (g .result .step) n (headNumbers (headIn (g .result .walker .map)));
-          table = t;
-          block = g .block;
-          store = g .store;
-        };
+          record {
+            answer = startAnswer (g .result .step);
+            numbers = [];
+            head = started (g .result .step) n (headNumbers (headIn (g .result .walker .map)));
+            table = t;
+            block = g .block;
+            store = g .store;
+          };
       trail = started (g .result .step) w (trailIn (g .result .walker));
     }
 

@@ -207,13 +207,7 @@ fn put_rest(p: Place, k: usize, from: &mut u64, to: &mut u64) -> u32
     }
 }
 
-fn put_reason<'a>(
-    p: Place,
-    block: &'a [u8],
-    store: &'a [u8],
-    from: &mut u64,
-    to: &mut u64,
-) -> u32
+fn put_reason<'a>(p: Place, block: &'a [u8], store: &'a [u8], from: &mut u64, to: &mut u64) -> u32
     ensures { λ r. ⌜ Lies (handedLies (now (from .entry)) (now (to .entry)) (reasonOf (now (block .entry)) (now (store .entry)) (some p))) r (now (from .exit)) (now (to .exit)) ⌝ }
 {
     let text = maps::part(block, store, p);

@@ -1,10 +1,10 @@
 // What a map tells, what tests say of maps and of octets, and the resume check.
 use crate::answers;
 use crate::opening;
-use lent::heads;
 use codes::Kind;
 use codes::Length;
 use codes::line::Code;
+use lent::heads;
 use maps::Checked;
 ghost use mathlib.Core.Path.{_≡_};
 ghost use Rattle.abi.specs.Calls.{Tells, codeNumber, lengthNumber, kindNumber, codeTells, lengthTells, kindTells, cleanTells, tidyTells, grammarTells, equalTells, resumeTells};

@@ -27,7 +27,7 @@ same-length c = search needs
 
 returns : tie.Need-returns
 unfolding beginGives
-returns c = 
+returns c =
     gave-sound _ _ _ _ _ _ _ _ _ _ _ _ _ (sym (c .before .before .before .before .before .before .before .before .before .before .is-long .ensures) ∙ c .before .before .before .before .before .before .before .before .before .if1 .taken)
     (begun-fine _ _ _ _ _ _ (rw (c .before .before .before .before .before .before .before .before .unmade .ensures) at (c .before .before .before .before .before .before .before .begin .ensures) (tableOf (c .before .before .before .before .before .before .before .before .before .before .before .before .before .before .before .before .args .table .now))) _ (c .before .before .before .before .enum-told .given .1) (c .before .before .put-head .ensures))
 
@@ -42,7 +42,7 @@ same-length-2 c = search needs
 
 returns-2 : tie.Need-returns-2
 unfolding beginGives
-returns-2 c = 
+returns-2 c =
     gave-sound _ _ _ _ _ _ _ _ _ _ _ _ _ (sym (c .before .before .before .before .before .before .before .before .is-long .ensures) ∙ c .before .before .before .before .before .before .before .if1 .taken)
     (begun-refused _ _ _ _ _ _ (rw (c .before .before .before .before .before .before .unmade .ensures) at (c .before .before .before .before .before .begin .ensures) (tableOf (c .before .before .before .before .before .before .before .before .before .before .before .before .before .before .args .table .now))) _ _ (c .before .before .answer .given .1) (c .refused .ensures))
 

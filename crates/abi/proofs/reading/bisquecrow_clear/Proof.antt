@@ -27,7 +27,7 @@ same-length c = search needs
 
 returns : tie.Need-returns
 unfolding clearGives
-returns c = 
+returns c =
     gave-sound _ _ _ _ _ _ _ _ _ _ _ _ _ (sym (c .before .before .before .before .before .before .before .before .before .before .is-sound .ensures) ∙ c .before .before .before .before .before .before .before .before .before .if1 .taken)
     (changed madeAnswer noNumbers madeMap _ _ _ _ _ _ _ _ (rw (c .before .before .before .before .before .before .before .head-at .ensures) at (c .before .before .before .before .before .before .clear .ensures)) (c .checked .ensures) refl (c .before .before .before .put-head .ensures) (sound-parts _ _ (sym (c .before .before .before .before .before .before .before .before .before .before .is-sound .ensures) ∙ c .before .before .before .before .before .before .before .before .before .if1 .taken) .1))
 

@@ -36,7 +36,7 @@ same-length-4 c = search needs
 
 returns : tie.Need-returns
 unfolding feedGives
-returns c = 
+returns c =
     gave-sound _ _ _ _ _ _ _ _ _ _ _ _ _ (sym (c .before .before .before .before .before .before .before .before .before .before .before .before .before .before .before .before .before .before .before .is-sound .ensures) ∙ c .before .before .before .before .before .before .before .before .before .before .before .before .before .before .before .before .before .before .if1 .taken)
     (changed fedAnswer fedTaken fedMap _ _ _ _ _ _ _ _ (rw (c .before .before .before .before .before .before .before .before .before .before .before .before .before .before .before .before .head-at .ensures) at (c .before .before .before .before .before .before .before .before .before .before .before .before .feed .ensures)) (c .read .ensures) refl (c .before .before .before .put-head .ensures) (c .before .before .before .before .before .before .before .before .before .before .before .before .feed .kept .1 .0 ∙ sound-parts _ _ (sym (c .before .before .before .before .before .before .before .before .before .before .before .before .before .before .before .before .before .before .before .is-sound .ensures) ∙ c .before .before .before .before .before .before .before .before .before .before .before .before .before .before .before .before .before .before .if1 .taken) .1))
 
