@@ -6,16 +6,17 @@ use mathlib.Core.List.{List, [], _∷_, _++_, append-nil}
 use Prim.Native.Nat.{ℕ, zero, suc, _+_, _*_, _-_, _≤_, _<_, min}
 use native.Mathlib.Omega.{arith}
 use native.Mathlib.Numerals.{add-one}
-use borrow.Author.Tests.{eqb-true, eqb-false, ltb-true, ltb-false, leb-true, leb-false, lt-ltb, le-ltb}
+use borrow.Author.Tests.{eqb-true, eqb-false, ltb-true, ltb-false, leb-true, leb-false, lt-ltb, le-ltb, le-leb, lt-leb}
 use lib.Arith.{lt-of-le-ne}
 use lib.Dec.{eqb, leb, ltb}
 use lib.ListN.{length, getD, set, take, drop, replicate, length-append, length-drop, length-replicate, length-set, drop-of-length-le}
 use lib.Seq.{getD-set-same, getD-set-other, ext-getD, length-take-le, take-at, drop-cons, sets, sets-eq, paste, paste-suc}
 use Rattle.leaves.specs.Choice.{if_then_else_}
 use Rattle.leaves.specs.Paste.{lay}
-use Rattle.leaves.proofs.ChoiceLaws.{by-if, if-true, if-false, and-left, and-right}
+use Rattle.leaves.proofs.ChoiceLaws.{by-if, if-true, if-false, and-left, and-right, and-both, and-false}
 use Rattle.maps.specs.Places.{inBlock, inStore, noField}
-use Rattle.maps.specs.Good.{Fits, in-block, in-store, Fit, goodField, goodFields}
+use Rattle.maps.specs.Good.{Fits, in-block, in-store, Fit, goodPlace, goodField, goodFields, goodRooms, goodCounts}
+use Rattle.maps.proofs.GoodLaws.{and-stop}
 use Rattle.maps.specs.declared.Place.{Place}
 use Rattle.maps.specs.declared.Field.{Field}
 use Rattle.maps.specs.declared.Status.the-variants.{Absent, At as Stands}
@@ -24,7 +25,7 @@ use Rattle.maps.specs.declared.Phase.the-variants.{Reading, Done}
 use Rattle.maps.specs.declared.Head.{Head}
 use Rattle.lookups.specs.declared.Found.the-variants.{At, Missing}
 use Rattle.lookups.specs.Lookups.{seeking}
-use Rattle.lent.specs.Table.{storeMark, placeOf, fromOf, toOf, placeAt, fieldAt, fieldsFrom, tableOf, numbersOf, placePut, fieldPut, liveIn}
+use Rattle.lent.specs.Table.{storeMark, placeOf, goodStored, fromOf, toOf, placeAt, fieldAt, fieldsFrom, tableOf, numbersOf, placePut, fieldPut, liveIn}
 use Rattle.lent.specs.Numbers.{flagOf, phaseNumber, statusKind, statusFrom, statusTo, headNumbers, statusOf, phaseOf, headOf, soundStatus, soundHead, soundMap}
 
 module _ (t : List ℕ) (n i : ℕ) where
@@ -407,3 +408,40 @@ module _ (n t : List ℕ) (w : soundMap n t ≡ true) where
 
   pub sound-long : (length n ≡ 13) × (length t ≡ 1024)
   sound-long = (head-long n (sound-parts .0), sound-parts .1)
+
+-- the tests of a place on its numbers as they stand
+module _ (count mark from to : ℕ) where
+  among-block : from < storeMark → goodPlace count mark (placeOf from to) ≡ (leb from to && leb to count)
+  unfolding placeOf
+  among-block h = ap (goodPlace count mark) (if-true (inBlock from to) (inStore (from - storeMark) to) (lt-ltb _ _ h))
+
+  among-store : storeMark ≤ from → goodPlace count mark (placeOf from to) ≡ goodStored mark from to
+  unfolding placeOf goodStored
+  among-store h = ap (goodPlace count mark) (if-false (inBlock from to) (inStore (from - storeMark) to) (le-ltb _ _ h)) ∙ sym (if-false false (leb (from - storeMark) to && leb to mark) (le-ltb _ _ h))
+
+  none-stored : from < storeMark → goodStored mark from to ≡ false
+  unfolding goodStored
+  none-stored h = if-true false (leb (from - storeMark) to && leb to mark) (lt-ltb _ _ h)
+
+  pub place-plain : from ≤ to → to ≤ count → count ≤ 65536 → true ≡ goodPlace count mark (placeOf from to)
+  place-plain a b c =
+      let h : from < storeMark = omega (arith, a, b, c) in
+      sym (among-block h ∙ and-both _ _ (le-leb _ _ a) (le-leb _ _ b))
+
+  -- a place that is not plainly the block's
+  other-by : (leb from to && leb to count) ≡ false → (x : Bool) → ltb from storeMark ≡ x → goodStored mark from to ≡ goodPlace count mark (placeOf from to)
+  other-by e true h = none-stored (ltb-true _ _ h) ∙ sym (among-block (ltb-true _ _ h) ∙ e)
+  other-by e false h = sym (among-store (ltb-false _ _ h))
+
+  pub place-over : count < to → goodStored mark from to ≡ goodPlace count mark (placeOf from to)
+  place-over h = other-by (and-false (leb from to) (leb to count) (lt-leb _ _ h)) _ refl
+
+  pub place-turned : to < from → goodStored mark from to ≡ goodPlace count mark (placeOf from to)
+  place-turned h = other-by (sym (and-stop (leb from to) (leb to count) (lt-leb _ _ h))) _ refl
+
+-- a count that is good among good rooms
+pub count-small : (limit room count mark line fields : ℕ) → goodRooms limit room ≡ true → goodCounts limit room count mark line fields ≡ true → count ≤ 65536
+count-small limit room count mark line fields r k =
+    let a : limit ≤ 65536 = leb-true _ _ (and-left (leb limit 65536) _ r) in
+    let b : count ≤ limit = leb-true _ _ (and-left (leb count limit) _ k) in
+    omega (arith, a, b)

@@ -1,8 +1,8 @@
 -- A table of fields in lent numbers: four to a field, two to a place. Assumes nothing.
-use mathlib.Core.Path.{_≡_}
+use mathlib.Core.Bool.{Bool, false, _&&_}
 use mathlib.Core.List.{List, [], _∷_, _++_}
 use Prim.Native.Nat.{ℕ, zero, suc, _+_, _*_, _-_, min}
-use lib.Dec.{ltb}
+use lib.Dec.{leb, ltb}
 use lib.ListN.{getD, set, replicate}
 use Rattle.leaves.specs.Choice.{if_then_else_}
 use Rattle.leaves.specs.Paste.{lay}
@@ -21,6 +21,10 @@ storeMark = 2147483648
 -- the place that two numbers are: where it begins, and where it ends
 unfoldable pub placeOf : ℕ → ℕ → Place
 placeOf from to = if ltb from storeMark then inBlock from to else inStore (from - storeMark) to
+
+-- two numbers that are a good place of the store
+unfoldable pub goodStored : ℕ → ℕ → ℕ → Bool
+goodStored mark from to = if ltb from storeMark then false else (leb (from - storeMark) to && leb to mark)
 
 -- the two numbers of a place
 abbrev pub fromOf : Place → ℕ

@@ -8,9 +8,9 @@ use maps::StoreOffset;
 ghost use mathlib.Core.Path.{_≡_};
 ghost use Prim.Native.Nat.{_+_, _-_, _<_, _≤_};
 ghost use lib.ListN.{length};
-ghost use Rattle.maps.specs.Good.{Fits, Fit, goodFields};
+ghost use Rattle.maps.specs.Good.{Fits, Fit, goodPlace, goodField, goodFields};
 ghost use Rattle.lookups.specs.Lookups.{named, seeking};
-ghost use Rattle.lent.specs.Table.{placeOf, placeAt, fieldAt, fieldsFrom, fromOf, toOf, placePut, fieldPut};
+ghost use Rattle.lent.specs.Table.{placeOf, goodStored, placeAt, fieldAt, fieldsFrom, fromOf, toOf, placePut, fieldPut};
 
 // Offsets of the store stand behind this number, those of the block before it.
 const STORE: u32 = 2147483648;
@@ -81,15 +81,53 @@ pub fn put_field(t: &mut [u32], i: usize, f: Field)
     put_place(t, i * 4 + 2, value);
 }
 
+// Whether two numbers are a good place of the store.
+fn good_stored(from: u32, to: u32, mark: usize) -> bool
+    ensures { λ r. ⌜ r ≡ goodStored mark from to ⌝ }
+{
+    if from < STORE {
+        return false;
+    }
+    if from - STORE <= to {
+        return (to as usize) <= mark;
+    }
+    false
+}
+
+// Whether the place of two numbers is good. Most places are the block's: two comparisons of the numbers as they stand tell a good one.
+fn good_place(from: u32, to: u32, count: usize, mark: usize) -> bool
+    requires { ⌜ count ≤ 65536 ⌝ }
+    ensures { λ r. ⌜ r ≡ goodPlace count mark (placeOf from to) ⌝ }
+{
+    if from <= to {
+        if (to as usize) <= count {
+            return true;
+        }
+        return good_stored(from, to, mark);
+    }
+    good_stored(from, to, mark)
+}
+
+fn good_field(t: &[u32], i: usize, count: usize, mark: usize) -> bool
+    requires { ⌜ (i < 256) × (length (now t) ≡ 1024) × (count ≤ 65536) ⌝ }
+    ensures { λ r. ⌜ r ≡ goodField count mark (fieldAt (now (t .entry)) i) ⌝ }
+{
+    let key = i * 4;
+    let value = key + 2;
+    if good_place(t[key], t[key + 1], count, mark) {
+        return good_place(t[value], t[value + 1], count, mark);
+    }
+    false
+}
+
 // Whether the first n fields are good.
 pub fn good_fields(t: &[u32], n: usize, count: usize, mark: usize) -> bool
-    requires { ⌜ (n ≤ 256) × (length (now t) ≡ 1024) ⌝ }
+    requires { ⌜ (n ≤ 256) × (length (now t) ≡ 1024) × (count ≤ 65536) ⌝ }
     ensures { λ r. ⌜ r ≡ goodFields count mark (fieldsFrom (now (t .entry)) 0 n) ⌝ }
 {
     let mut i = 0;
     while i < n {
-        let f = field_at(t, i);
-        if maps::good_field(f, count, mark) {
+        if good_field(t, i, count, mark) {
             i += 1;
         } else {
             return false;

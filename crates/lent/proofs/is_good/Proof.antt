@@ -2,7 +2,7 @@
 use Rattle.maps.proofs.GoodBy.{counts-few}
 use Rattle.maps.proofs.GoodLaws.{and-go, and-stop}
 use Rattle.maps.specs.Good.{good, goodFields}
-use Rattle.lent.proofs.LentLaws.{fields-take}
+use Rattle.lent.proofs.LentLaws.{fields-take, count-small}
 use borrow.Author.Needs.{needs}
 use Rattle.lent.proofs.is_good.Statement.{statement}
 use Rattle.lent.proofs.is_good.Tie as tie
@@ -21,7 +21,9 @@ good-fields-requires : tie.Need-good-fields-requires
 good-fields-requires c κs =
     let z = c .before .before .before .before .before .before .before in
     let a = z .args .h in
-    (counts-few (a .limit) (a .room) (a .count) (a .mark) (a .line) (a .fields) (sym (c .before .before .before .good-counts .ensures) ∙ c .before .before .if2 .taken), z .pre)
+    let k = sym (c .before .before .before .good-counts .ensures) ∙ c .before .before .if2 .taken in
+    let r = sym (c .before .before .before .before .before .good-rooms .ensures) ∙ c .before .before .before .before .if1 .taken in
+    (counts-few (a .limit) (a .room) (a .count) (a .mark) (a .line) (a .fields) k, z .pre, count-small (a .limit) (a .room) (a .count) (a .mark) (a .line) (a .fields) r k)
 
 returns : tie.Need-returns
 unfolding good

@@ -22,9 +22,6 @@ loop-holds c =
     let e : a .n ≡ a .n - 0 = omega arith in
     ap (λ (k : ℕ). goodFields (a .count) (a .mark) (fieldsFrom (a .t .now) 0 k)) e
 
-field-at-requires : tie.Need-field-at-requires Inv-loop μ-loop
-field-at-requires c κs = search needs
-
 good-field-requires : tie.Need-good-field-requires Inv-loop μ-loop
 good-field-requires c κs = search needs
 
@@ -36,19 +33,19 @@ loop-less c = search needs
 
 loop-again : tie.Need-loop-again Inv-loop μ-loop
 loop-again c =
-    let l = c .before .before .before .before in
+    let l = c .before .before .before in
     let a = l .before .before .args in
-    let h : l .loop .i < a .n = omega (arith, c .before .before .before .loop-test .taken) in
-    let e = sym (c .before .good-field .ensures ∙ ap (goodField (a .count) (a .mark)) (c .before .before .field-at .ensures)) ∙ c .if1 .taken in
+    let h : l .loop .i < a .n = omega (arith, c .before .before .loop-test .taken) in
+    let e = sym (c .before .good-field .ensures) ∙ c .if1 .taken in
     let g = l .loop .inv ∙ good-next (a .count) (a .mark) (a .t .now) (a .n) (l .loop .i) h in
     g ∙ sym (and-go _ _ e)
 
 returns : tie.Need-returns Inv-loop μ-loop
 returns c =
-    let l = c .before .before .before .before in
+    let l = c .before .before .before in
     let a = l .before .before .args in
-    let h : l .loop .i < a .n = omega (arith, c .before .before .before .loop-test .taken) in
-    let e = sym (c .before .good-field .ensures ∙ ap (goodField (a .count) (a .mark)) (c .before .before .field-at .ensures)) ∙ c .if1 .left in
+    let h : l .loop .i < a .n = omega (arith, c .before .before .loop-test .taken) in
+    let e = sym (c .before .good-field .ensures) ∙ c .if1 .left in
     let g = l .loop .inv ∙ good-next (a .count) (a .mark) (a .t .now) (a .n) (l .loop .i) h in
     sym (g ∙ sym (and-stop _ _ e))
 
@@ -65,7 +62,6 @@ good-fields-spec =
     Inv-loop
     μ-loop
     loop-holds
-    field-at-requires
     good-field-requires
     add-i
     loop-less

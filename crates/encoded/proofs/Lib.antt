@@ -1,5 +1,0 @@
-pub mod NumberLaws
-pub mod TableLaws
-pub mod WholeLaws
-pub mod BackLaws
-pub mod KeptLaws
