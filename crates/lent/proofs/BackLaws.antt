@@ -1,4 +1,4 @@
--- Laws of a map in lent numbers, back: a map's numbers are a map's, and that map is the one that they stand for. Assumes nothing.
+-- A map is the one that its numbers stand for, and they are a map's. Assumes nothing.
 use mathlib.Core.Path.{_≡_, refl, sym, ap, _∙_}
 use mathlib.Core.Bool.{Bool, true, false}
 use mathlib.Core.List.{List, [], _∷_}
@@ -25,17 +25,17 @@ use Rattle.lent.proofs.LentLaws.{told}
 
 -- the numbers of one field before a table
 module _ (a b c d : ℕ) (t : List ℕ) where
+  get-skip : (k j : ℕ) → k ≡ suc (suc (suc (suc j))) → getD (a ∷ b ∷ c ∷ d ∷ t) k 0 ≡ getD t j 0
+  get-skip k j e = ap (λ (i : ℕ). getD (a ∷ b ∷ c ∷ d ∷ t) i 0) e
+
   field-skip : (i : ℕ) → fieldAt (a ∷ b ∷ c ∷ d ∷ t) (i + 1) ≡ fieldAt t i
   field-skip i =
-      let e₀ : (i + 1) * 4 ≡ suc (suc (suc (suc (i * 4)))) = omega arith in
-      let e₁ : (i + 1) * 4 + 1 ≡ suc (suc (suc (suc (i * 4 + 1)))) = omega arith in
-      let e₂ : (i + 1) * 4 + 2 ≡ suc (suc (suc (suc (i * 4 + 2)))) = omega arith in
-      let e₃ : (i + 1) * 4 + 2 + 1 ≡ suc (suc (suc (suc (i * 4 + 2 + 1)))) = omega arith in
-      let g₀ : getD (a ∷ b ∷ c ∷ d ∷ t) ((i + 1) * 4) 0 ≡ getD t (i * 4) 0 = ap (λ (k : ℕ). getD (a ∷ b ∷ c ∷ d ∷ t) k 0) e₀ in
-      let g₁ : getD (a ∷ b ∷ c ∷ d ∷ t) ((i + 1) * 4 + 1) 0 ≡ getD t (i * 4 + 1) 0 = ap (λ (k : ℕ). getD (a ∷ b ∷ c ∷ d ∷ t) k 0) e₁ in
-      let g₂ : getD (a ∷ b ∷ c ∷ d ∷ t) ((i + 1) * 4 + 2) 0 ≡ getD t (i * 4 + 2) 0 = ap (λ (k : ℕ). getD (a ∷ b ∷ c ∷ d ∷ t) k 0) e₂ in
-      let g₃ : getD (a ∷ b ∷ c ∷ d ∷ t) ((i + 1) * 4 + 2 + 1) 0 ≡ getD t (i * 4 + 2 + 1) 0 = ap (λ (k : ℕ). getD (a ∷ b ∷ c ∷ d ∷ t) k 0) e₃ in
-      rw (g₀, g₁, g₂, g₃)
+      rw (
+        get-skip ((i + 1) * 4) (i * 4) (omega arith),
+        get-skip ((i + 1) * 4 + 1) (i * 4 + 1) (omega arith),
+        get-skip ((i + 1) * 4 + 2) (i * 4 + 2) (omega arith),
+        get-skip ((i + 1) * 4 + 2 + 1) (i * 4 + 2 + 1) (omega arith),
+      )
 
   fields-skip : (i k : ℕ) → fieldsFrom (a ∷ b ∷ c ∷ d ∷ t) (i + 1) k ≡ fieldsFrom t i k
   unfolding fieldsFrom
