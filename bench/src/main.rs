@@ -275,14 +275,13 @@ impl C {
         if answer == IN_STORE { &s[from as usize..to as usize] } else { &b[from as usize..to as usize] }
     }
 
+    /// A text by its two numbers, as the inline functions of the C header take it: a place of a good map lies inside its loan.
     fn text(&self, from: u32, to: u32) -> &[u8] {
-        match from.checked_sub(STORE_MARK) {
-            Some(from) => &self.store[from as usize..to as usize],
-            None => &self.block[from as usize..to as usize],
-        }
+        let (loan, at) = if from < STORE_MARK { (&self.block, from) } else { (&self.store, from - STORE_MARK) };
+        unsafe { std::slice::from_raw_parts(loan.as_ptr().add(at as usize), (to - at) as usize) }
     }
 
-    /// All keys and values.
+    /// All keys and values: one call judges the map, then its table is read.
     fn all(&self) -> usize {
         let (h, t, b, s, mut count) = (&self.head, &self.table, &self.block, &self.store, 0);
         let answer =

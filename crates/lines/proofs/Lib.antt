@@ -2,3 +2,4 @@ pub mod ScanLaws
 pub mod EndLaws
 pub mod LineLaws
 pub mod TightLaws
+pub mod CopyLaws

@@ -13,13 +13,10 @@ use leaves::refusals::Refusal;
 use maps::Checked;
 use maps::Head;
 use maps::Phase;
-use maps::Status;
 use openings::Opening;
 ghost use mathlib.Core.Path.{_≡_};
-ghost use mathlib.Core.Bool.{false};
 ghost use Prim.Native.Nat.{_+_, _≤_, min};
 ghost use lib.ListN.{length, take, drop};
-ghost use Rattle.maps.specs.Heads.{emptyHead};
 ghost use Rattle.walker.specs.declared.Stage.the-variants.{Stopped};
 ghost use Rattle.walker.specs.declared.Step.the-variants.{Refused};
 ghost use Rattle.walker.specs.declared.Resting.the-variants.{Walks};
@@ -59,31 +56,14 @@ pub fn ready_at(stage: Stage, phase: Phase) -> bool
     }
 }
 
-fn emptied(h: Head, awaits: bool, phase: Phase) -> Head
-    ensures { λ r. ⌜ r ≡ emptyHead (h .limit) (h .room) awaits false phase ⌝ }
-{
-    Head {
-        count: 0,
-        line: 0,
-        mark: 0,
-        fields: 0,
-        status: Status::Absent,
-        awaits,
-        quirks: false,
-        edited: false,
-        phase,
-        ..h
-    }
-}
-
 // What a call keeps of the map's head.
 pub fn kept_head(h: Head, kept: Kept) -> Head
     ensures { λ r. ⌜ r ≡ keptHead kept h ⌝ }
 {
     match kept {
         Kept::Same => h,
-        Kept::Emptied => emptied(h, false, Phase::Done),
-        Kept::Fresh => emptied(h, true, Phase::Reading),
+        Kept::Emptied => reader::empty_head(h.limit, h.room, false, false, Phase::Done),
+        Kept::Fresh => reader::empty_head(h.limit, h.room, true, false, Phase::Reading),
     }
 }
 

@@ -10,23 +10,23 @@ enum-told c = search needs
 enum-told-2 : tie.Need-enum-told-2
 enum-told-2 c = search needs
 
-emptied-requires : tie.Need-emptied-requires
-emptied-requires c κs = search needs
+empty-head-requires : tie.Need-empty-head-requires
+empty-head-requires c κs = search needs
 
 enum-told-3 : tie.Need-enum-told-3
 enum-told-3 c = search needs
 
-emptied-requires-2 : tie.Need-emptied-requires-2
-emptied-requires-2 c κs = search needs
+empty-head-requires-2 : tie.Need-empty-head-requires-2
+empty-head-requires-2 c κs = search needs
 
 returns : tie.Need-returns
 returns c = rw (c .enum-told .given .1)
 
 returns-2 : tie.Need-returns-2
-returns-2 c = rw (c .before .enum-told2 .given .1) (c .emptied .ensures)
+returns-2 c = rw (c .before .enum-told2 .given .1) (c .empty-head .ensures)
 
 returns-3 : tie.Need-returns-3
-returns-3 c = rw (c .before .enum-told3 .given .1) (c .emptied2 .ensures)
+returns-3 c = rw (c .before .enum-told3 .given .1) (c .empty-head2 .ensures)
 
 pub kept-head-spec : {M : Type 1} → statement M
 kept-head-spec =
@@ -34,9 +34,9 @@ kept-head-spec =
     (tie.spec
     enum-told
     enum-told-2
-    emptied-requires
+    empty-head-requires
     enum-told-3
-    emptied-requires-2
+    empty-head-requires-2
     returns
     returns-2
     returns-3)
