@@ -5,7 +5,7 @@ use mathlib.Core.List.{List, [], _∷_}
 use Prim.Native.Nat.{ℕ, zero, suc, _+_, _-_, _≤_, _<_}
 use native.Mathlib.Omega.{arith}
 use lib.Dec.{eqb, ltb}
-use lib.ListN.{length, getD}
+use lib.ListN.{length, getD, set}
 use borrow.Author.Tests.{eqb-true, ltb-true, lt-ltb, le-ltb, eq-eqb}
 use Rattle.leaves.specs.Choice.{if_then_else_}
 use Rattle.leaves.specs.Refusals.{number, refusal}
@@ -115,3 +115,12 @@ trail-back w = rw (stage-back (w .stage))
 pub trail-sound : (w : Trail) → soundTrail (trailNumbers w) ≡ true
 unfolding soundTrail
 trail-sound w = lt-ltb _ _ (stage-small (w .stage))
+
+-- four numbers stored over four
+pub four-stored : (n : List ℕ) (a b c d : ℕ) → length n ≡ 4 → set (set (set (set n 0 a) 1 b) 2 c) 3 d ≡ a ∷ b ∷ c ∷ d ∷ []
+four-stored [] a b c d l = absurd (omega arith)
+four-stored (w ∷ []) a b c d l = absurd (omega arith)
+four-stored (w ∷ x ∷ []) a b c d l = absurd (omega arith)
+four-stored (w ∷ x ∷ y ∷ []) a b c d l = absurd (omega arith)
+four-stored (w ∷ x ∷ y ∷ z ∷ []) a b c d l = refl
+four-stored (w ∷ x ∷ y ∷ z ∷ v ∷ r) a b c d l = absurd (omega arith)
