@@ -159,6 +159,9 @@ lent =
       is-sound-trail = λ κ a r e h. h;
       trail-at = λ κ a r e h. h;
       put-trail = λ κ a r e h. h;
+      start = λ κ a r e h. h;
+      walk = λ κ a r e h. h;
+      end = λ κ a r e h. h;
     }
 
 pub exports : Exports
@@ -339,6 +342,9 @@ asks =
             is-sound-trail = λ κ a. tt;
             trail-at = λ κ a h. h;
             put-trail = λ κ a h. h;
+            start = λ κ a. tt;
+            walk = λ κ a h. h;
+            end = λ κ a h. h;
           };
       exports =
           record {

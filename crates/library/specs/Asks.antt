@@ -159,6 +159,9 @@ pub record LentAsk : Type 0 where
   pub is-sound-trail : Free Rattle.trails.proofs.is_sound.Reads.Asked
   pub trail-at : Asks Rattle.trails.proofs.trail_at.Reads.Asked (λ κ a. length (now (first a)) ≡ 4)
   pub put-trail : Asks Rattle.trails.proofs.put_trail.Reads.Asked (λ κ a. length (now (first a)) ≡ 4)
+  pub start : Free Rattle.lent_walker.proofs.start.Reads.Asked
+  pub walk : Asks Rattle.lent_walker.proofs.walk.Reads.Asked (λ κ a. length (now (third a)) ≡ 1024)
+  pub end : Asks Rattle.lent_walker.proofs.end.Reads.Asked (λ κ a. length (now (third a)) ≡ 1024)
 
 -- for C and Rust: the exported functions ask nothing
 pub record ExportsAsk : Type 0 where

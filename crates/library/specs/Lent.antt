@@ -92,3 +92,10 @@ pub record Lent : Type 0 where
   pub trail-at : Says Rattle.trails.proofs.trail_at.Reads.Learnt (λ κ a r e. r ≡ trailOf (now (first a)))
   -- put_trail(n, w)
   pub put-trail : Says Rattle.trails.proofs.put_trail.Reads.Learnt (λ κ a r e. now (first e) ≡ trailNumbers (second a))
+  -- the walker
+  -- start(h, room, position, block, store)
+  pub start : Says Rattle.lent_walker.proofs.start.Reads.Learnt (λ κ a r e. Starts (first a) (second a) (third a) (now (fourth a)) (now (fifth a)) r)
+  -- walk(trail, h, t, block, store, piece)
+  pub walk : Says Rattle.lent_walker.proofs.walk.Reads.Learnt (λ κ a r e. Is (walking (walkerIn (now (third a)) (second a) (first a)) (now (fourth a)) (now (fifth a)) (now (sixth a))) (walkedIn (now (third e)) r) (now (fourth e)) (now (fifth e)))
+  -- end(trail, h, t, block, store)
+  pub end : Says Rattle.lent_walker.proofs.end.Reads.Learnt (λ κ a r e. Is (ending (walkerIn (now (third a)) (second a) (first a)) (now (fourth a)) (now (fifth a))) (walkedIn (now (third a)) r) (now (fourth a)) (now (fifth a)))
