@@ -69,7 +69,7 @@ pub fields-at : (t : List ℕ) (k j : ℕ) → j < k → getD (fieldsFrom t 0 k)
 fields-at t k j h = let e : 0 + j ≡ j = omega arith in fields-get t 0 k j h ∙ ap (fieldAt t) e
 
 -- a place is told by its two numbers
-told : {p : Place} → Fits 65536 65536 p → placeOf (fromOf p) (toOf p) ≡ p
+pub told : {p : Place} → Fits 65536 65536 p → placeOf (fromOf p) (toOf p) ≡ p
 unfolding placeOf
 told (in-block x y l h) = let k : x < storeMark = omega (arith, l, h) in if-true _ _ (lt-ltb _ _ k)
 told (in-store x y l h) =

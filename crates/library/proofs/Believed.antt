@@ -5,7 +5,7 @@ use Rattle.demands.proofs.Answers.{answered as demands-answered}
 use Rattle.records.proofs.Files.{answered as walks-answered}
 use Rattle.library.specs.Library.{Library}
 use Rattle.library.proofs.EncodingsHold.{encodings}
-use Rattle.library.proofs.Contracts.{asks, leaves, maps, calls, exports}
+use Rattle.library.proofs.Contracts.{asks, leaves, maps, shared, calls, lent, exports}
 
 pub believed : Library
 believed =
@@ -13,7 +13,9 @@ believed =
       asks = asks;
       leaves = leaves;
       maps = maps;
+      shared = shared;
       calls = calls;
+      lent = lent;
       exports = exports;
       encodings = encodings;
       hears = hears;

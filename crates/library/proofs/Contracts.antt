@@ -2,7 +2,9 @@
 use Rattle.library.specs.Asks.{AsksOnly}
 use Rattle.library.specs.Leaves.{Leaves}
 use Rattle.library.specs.Maps.{Maps}
+use Rattle.library.specs.Shared.{Shared}
 use Rattle.library.specs.Calls.{Calls}
+use Rattle.library.specs.Lent.{Lent}
 use Rattle.library.specs.Exports.{Exports}
 
 pub leaves : Leaves
@@ -43,7 +45,10 @@ maps =
       in-block = λ κ a r e h. h;
       in-store = λ κ a r e h. h;
       part = λ κ a r e h. h;
+      good-status = λ κ a r e h. h;
+      good-field = λ κ a r e h. h;
       good-rooms = λ κ a r e h. h;
+      good-counts = λ κ a r e h. h;
       check = λ κ a r e h. h;
       is-reading = λ κ a r e h. h;
       is-done = λ κ a r e h. h;
@@ -51,6 +56,36 @@ maps =
       ends-block = λ κ a r e h. h;
       rule-four = λ κ a r e h. h;
       line-change = λ κ a r e h. h;
+    }
+
+pub shared : Shared
+shared =
+    record {
+      empty-head = λ κ a r e h. h;
+      head-after = λ κ a r e h. h;
+      last-of = λ κ a r e h. h;
+      colon-of = λ κ a r e h. h;
+      check-rooms = λ κ a r e h. h;
+      changed = λ κ a r e h. h;
+      new-field = λ κ a r e h. h;
+      fit = λ κ a r e h. h;
+      write-both = λ κ a r e h. h;
+      put-two = λ κ a r e h. h;
+      give = λ κ a r e h. h;
+      put-pair = λ κ a r e h. h;
+      pair-length = λ κ a r e h. h;
+      status-length = λ κ a r e h. h;
+      put-status = λ κ a r e h. h;
+      is-untouched = λ κ a r e h. h;
+      status-text = λ κ a r e h. h;
+      note = λ κ a r e h. h;
+      open-spots = λ κ a r e h. h;
+      open-good = λ κ a r e h. h;
+      ready-at = λ κ a r e h. h;
+      kept-head = λ κ a r e h. h;
+      turn = λ κ a r e h. h;
+      behind-header = λ κ a r e h. h;
+      end-trail = λ κ a r e h. h;
     }
 
 pub calls : Calls
@@ -90,24 +125,58 @@ calls =
       resume = λ κ a r e h. h;
     }
 
+pub lent : Lent
+lent =
+    record {
+      check = λ κ a r e h. h;
+      check-done = λ κ a r e h. h;
+      live-map = λ κ a r e h. h;
+      put-fields = λ κ a r e h. h;
+      is-sound = λ κ a r e h. h;
+      is-long = λ κ a r e h. h;
+      live-at = λ κ a r e h. h;
+      is-sound-head = λ κ a r e h. h;
+      head-at = λ κ a r e h. h;
+      put-head = λ κ a r e h. h;
+      unmade = λ κ a r e h. h;
+      field-at = λ κ a r e h. h;
+      put-field = λ κ a r e h. h;
+      good-fields = λ κ a r e h. h;
+      find = λ κ a r e h. h;
+      feed = λ κ a r e h. h;
+      finish = λ κ a r e h. h;
+      begin = λ κ a r e h. h;
+      clear = λ κ a r e h. h;
+      remove = λ κ a r e h. h;
+      set = λ κ a r e h. h;
+      append = λ κ a r e h. h;
+      set-status = λ κ a r e h. h;
+      rebuild = λ κ a r e h. h;
+      write = λ κ a r e h. h;
+      status-code = λ κ a r e h. h;
+      content-length = λ κ a r e h. h;
+      record-type = λ κ a r e h. h;
+      is-sound-trail = λ κ a r e h. h;
+      trail-at = λ κ a r e h. h;
+      put-trail = λ κ a r e h. h;
+      start = λ κ a r e h. h;
+      walk = λ κ a r e h. h;
+      end = λ κ a r e h. h;
+    }
+
 pub exports : Exports
 exports =
     record {
-      encode = λ κ a r e h. h;
-      decode = λ κ a r e h. h;
-      begins-soundly = λ κ a r e h. h;
-      is-sound = λ κ a r e h. h;
-      encode-walker = λ κ a r e h. h;
-      decode-walker = λ κ a r e h. h;
-      is-sound-walker = λ κ a r e h. h;
       set = λ κ a r e h. h;
       append = λ κ a r e h. h;
       remove = λ κ a r e h. h;
       set-status = λ κ a r e h. h;
+      fields = λ κ a r e h. h;
       find = λ κ a r e h. h;
       value = λ κ a r e h. h;
       key = λ κ a r e h. h;
       status = λ κ a r e h. h;
+      reason = λ κ a r e h. h;
       begin = λ κ a r e h. h;
       feed = λ κ a r e h. h;
       finish = λ κ a r e h. h;
@@ -165,7 +234,10 @@ asks =
             in-block = λ κ a h. h;
             in-store = λ κ a h. h;
             part = λ κ a. tt;
+            good-status = λ κ a. tt;
+            good-field = λ κ a. tt;
             good-rooms = λ κ a. tt;
+            good-counts = λ κ a. tt;
             check = λ κ a. tt;
             is-reading = λ κ a. tt;
             is-done = λ κ a. tt;
@@ -173,6 +245,34 @@ asks =
             ends-block = λ κ a. tt;
             rule-four = λ κ a h. h;
             line-change = λ κ a h. h;
+          };
+      shared =
+          record {
+            empty-head = λ κ a. tt;
+            head-after = λ κ a. tt;
+            last-of = λ κ a. tt;
+            colon-of = λ κ a h. h;
+            check-rooms = λ κ a. tt;
+            changed = λ κ a. tt;
+            new-field = λ κ a h. h;
+            fit = λ κ a. tt;
+            write-both = λ κ a h. h;
+            put-two = λ κ a h. h;
+            give = λ κ a. tt;
+            put-pair = λ κ a h. h;
+            pair-length = λ κ a h. h;
+            status-length = λ κ a. tt;
+            put-status = λ κ a h. h;
+            is-untouched = λ κ a. tt;
+            status-text = λ κ a. tt;
+            note = λ κ a. tt;
+            open-spots = λ κ a. tt;
+            open-good = λ κ a h. h;
+            ready-at = λ κ a. tt;
+            kept-head = λ κ a. tt;
+            turn = λ κ a. tt;
+            behind-header = λ κ a. tt;
+            end-trail = λ κ a. tt;
           };
       calls =
           record {
@@ -209,23 +309,55 @@ asks =
             end = λ κ a. tt;
             resume = λ κ a. tt;
           };
+      lent =
+          record {
+            check = λ κ a h. h;
+            check-done = λ κ a h. h;
+            live-map = λ κ a h. h;
+            put-fields = λ κ a h. h;
+            is-sound = λ κ a. tt;
+            is-long = λ κ a. tt;
+            live-at = λ κ a h. h;
+            is-sound-head = λ κ a. tt;
+            head-at = λ κ a h. h;
+            put-head = λ κ a h. h;
+            unmade = λ κ a. tt;
+            field-at = λ κ a h. h;
+            put-field = λ κ a h. h;
+            good-fields = λ κ a h. h;
+            find = λ κ a h. h;
+            feed = λ κ a h. h;
+            finish = λ κ a h. h;
+            begin = λ κ a. tt;
+            clear = λ κ a h. h;
+            remove = λ κ a h. h;
+            set = λ κ a h. h;
+            append = λ κ a h. h;
+            set-status = λ κ a h. h;
+            rebuild = λ κ a h. h;
+            write = λ κ a h. h;
+            status-code = λ κ a h. h;
+            content-length = λ κ a h. h;
+            record-type = λ κ a h. h;
+            is-sound-trail = λ κ a. tt;
+            trail-at = λ κ a h. h;
+            put-trail = λ κ a h. h;
+            start = λ κ a. tt;
+            walk = λ κ a h. h;
+            end = λ κ a h. h;
+          };
       exports =
           record {
-            encode = λ κ a h. h;
-            decode = λ κ a h. h;
-            begins-soundly = λ κ a h. h;
-            is-sound = λ κ a. tt;
-            encode-walker = λ κ a h. h;
-            decode-walker = λ κ a h. h;
-            is-sound-walker = λ κ a. tt;
             set = λ κ a. tt;
             append = λ κ a. tt;
             remove = λ κ a. tt;
             set-status = λ κ a. tt;
+            fields = λ κ a. tt;
             find = λ κ a. tt;
             value = λ κ a. tt;
             key = λ κ a. tt;
             status = λ κ a. tt;
+            reason = λ κ a. tt;
             begin = λ κ a. tt;
             feed = λ κ a. tt;
             finish = λ κ a. tt;

@@ -2,7 +2,9 @@ pub mod Says
 pub mod Asks
 pub mod Leaves
 pub mod Maps
+pub mod Shared
 pub mod Calls
+pub mod Lent
 pub mod Exports
 pub mod Encodings
 pub mod Library

@@ -6,7 +6,9 @@ use Rattle.records.specs.Walks.{Walks}
 use Rattle.library.specs.Asks.{AsksOnly}
 use Rattle.library.specs.Leaves.{Leaves}
 use Rattle.library.specs.Maps.{Maps}
+use Rattle.library.specs.Shared.{Shared}
 use Rattle.library.specs.Calls.{Calls}
+use Rattle.library.specs.Lent.{Lent}
 use Rattle.library.specs.Exports.{Exports}
 use Rattle.library.specs.Encodings.{Encodings}
 
@@ -14,7 +16,9 @@ pub record Library : Type 0 where
   pub asks : AsksOnly
   pub leaves : Leaves
   pub maps : Maps
+  pub shared : Shared
   pub calls : Calls
+  pub lent : Lent
   pub exports : Exports
   pub encodings : Encodings
   pub hears : Hears

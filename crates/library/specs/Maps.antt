@@ -2,7 +2,7 @@
 use mathlib.Core.Path.{_≡_}
 use lib.ListN.{take}
 use denote.Ref.{now, ptr}
-use Rattle.maps.specs.Good.{checked, checkedDone, goodRooms, isDone, isReading}
+use Rattle.maps.specs.Good.{checked, checkedDone, goodCounts, goodField, goodRooms, goodStatus, isDone, isReading}
 use Rattle.maps.specs.Maps.{unmade}
 use Rattle.maps.specs.Places.{Parted, inBlock, inStore}
 use Rattle.folds.specs.Asks.{Changes}
@@ -21,8 +21,14 @@ pub record Maps : Type 0 where
   pub in-store : Says Rattle.maps.proofs.in_store.Reads.Learnt (λ κ a r e. r ≡ inStore (first a) (second a))
   -- part(block, store, p)
   pub part : Says Rattle.maps.proofs.part.Reads.Learnt (λ κ a r e. Parted (now (first a)) (now (second a)) (ptr (first a)) (ptr (second a)) (third a) (now r) (ptr r))
+  -- good_status(s, count, mark)
+  pub good-status : Says Rattle.maps.proofs.good_status.Reads.Learnt (λ κ a r e. r ≡ goodStatus (second a) (third a) (first a))
+  -- good_field(f, count, mark)
+  pub good-field : Says Rattle.maps.proofs.good_field.Reads.Learnt (λ κ a r e. r ≡ goodField (second a) (third a) (first a))
   -- good_rooms(limit, room)
   pub good-rooms : Says Rattle.maps.proofs.good_rooms.Reads.Learnt (λ κ a r e. r ≡ goodRooms (first a) (second a))
+  -- good_counts(limit, room, count, mark, line, fields)
+  pub good-counts : Says Rattle.maps.proofs.good_counts.Reads.Learnt (λ κ a r e. r ≡ goodCounts (first a) (second a) (third a) (fourth a) (fifth a) (sixth a))
   -- check(m, ready, block, store)
   pub check : Says Rattle.maps.proofs.check.Reads.Learnt (λ κ a r e. r ≡ checked (second a) (first a) (third a) (fourth a))
   -- is_reading(p)
