@@ -2,4 +2,3 @@ pub mod ScanLaws
 pub mod EndLaws
 pub mod LineLaws
 pub mod TightLaws
-pub mod CopyLaws

@@ -3,7 +3,6 @@ ghost use mathlib.Core.Path.{_≡_};
 ghost use mathlib.Core.Bool.{cond, _||_};
 ghost use lib.Dec.{eqb};
 ghost use Prim.Native.Nat.{_+_, _-_, _≤_, _<_, max};
-ghost use lib.Seq.{paste};
 ghost use lib.ListN.{length, take, drop};
 ghost use Rattle.leaves.specs.Octets.{has, before, Skipped};
 ghost use Rattle.leaves.specs.Paste.{pasted};
@@ -249,30 +248,13 @@ fn copy_middle(out: &mut [u8], text: &[u8])
     copy_sixteen(out, text, n - 16);
 }
 
-// Writes octets of a text over the start of out, 64 at a time, as long as another group of 16 follows them; answers how many.
-fn copy_fours(out: &mut [u8], text: &[u8]) -> usize
-    requires { ⌜ length (now text) ≤ length (now out) ⌝ }
-    ensures { λ r. ⌜ (r ≤ length (now (text .entry))) × (now (out .exit) ≡ paste (now (out .entry)) 0 (now (text .entry)) r) ⌝ }
-{
-    let n = text.len();
-    let mut i = 0;
-    while 64 < n - i {
-        copy_sixteen(out, text, i);
-        copy_sixteen(out, text, i + 16);
-        copy_sixteen(out, text, i + 32);
-        copy_sixteen(out, text, i + 48);
-        i += 64;
-    }
-    i
-}
-
 // The same for a text of 16 octets or more; the last group may overlap the one before.
 fn copy_long(out: &mut [u8], text: &[u8])
     requires { ⌜ (16 ≤ length (now text)) × (length (now text) ≤ length (now out)) ⌝ }
     ensures { λ r. ⌜ now (out .exit) ≡ pasted (now (out .entry)) 0 (now (text .entry)) ⌝ }
 {
     let last = text.len() - 16;
-    let mut i = copy_fours(out, text);
+    let mut i = 0;
     while i < last {
         copy_sixteen(out, text, i);
         i += 16;

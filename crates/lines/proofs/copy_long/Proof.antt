@@ -5,9 +5,7 @@ use borrow.Author.Needs.{needs}
 use native.Mathlib.Omega.{arith}
 use Prim.Native.Nat.{_-_}
 use lib.ListN.{length}
-use Rattle.leaves.proofs.PasteLaws.{Copying, copy-group, copy-end}
-use Rattle.lines.proofs.CopyLaws.{copy-on, copy-whole}
-use mathlib.Core.Path.{_∙_}
+use Rattle.leaves.proofs.PasteLaws.{Copying, copy-start, copy-group, copy-end}
 
 abbrev Inv-loop : tie.InvT-loop
 Inv-loop out₀ text last i₀ out i = Copying out₀ 0 text out i
@@ -18,11 +16,8 @@ abbrev μ-loop : tie.MeasureT-loop
 sub-last : tie.Need-sub-last Inv-loop μ-loop
 sub-last c = search needs
 
-copy-fours-requires : tie.Need-copy-fours-requires Inv-loop μ-loop
-copy-fours-requires c κs = search needs
-
 loop-holds : tie.Need-loop-holds Inv-loop μ-loop
-loop-holds c = copy-on _ _ _ _ (omega arith) (c .before .before .copy-fours .ensures .0) (c .before .before .copy-fours .ensures .1)
+loop-holds c = copy-start _ _ _ (omega arith)
 
 copy-sixteen-requires : tie.Need-copy-sixteen-requires Inv-loop μ-loop
 copy-sixteen-requires c κs = search needs
@@ -47,9 +42,8 @@ same-length c = search needs
 returns : tie.Need-returns Inv-loop μ-loop
 returns c =
     let l = c .before .before .before .before .before in
-    let n = length (c .before .before .before .before .before .before .before .before .before .before .before .before .args .text .now) in
-    copy-end (copy-group (l .loop .inv) (n - 16) 16 _ (omega arith) (omega arith) (c .before .before .copy-sixteen2 .ensures) (omega (arith, l .loop .inv .read))) (omega arith) ∙
-    copy-whole _ _ _ _ (omega arith) (c .before .before .before .before .before .before .before .before .copy-fours .ensures .0) (c .before .before .before .before .before .before .before .before .copy-fours .ensures .1)
+    let a = l .before .before .before .args in
+    copy-end (copy-group (l .loop .inv) (length (a .text .now) - 16) 16 _ (omega arith) (omega arith) (c .before .before .copy-sixteen2 .ensures) (omega (arith, l .loop .inv .read))) (omega arith)
 
 pub copy-long-spec : {M : Type 1} → statement M
 copy-long-spec =
@@ -58,7 +52,6 @@ copy-long-spec =
     Inv-loop
     μ-loop
     sub-last
-    copy-fours-requires
     loop-holds
     copy-sixteen-requires
     add-i
