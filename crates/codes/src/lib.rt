@@ -5,7 +5,7 @@ use leaves::lengths;
 use leaves::refusals::Refusal;
 use line::Code;
 use line::Start;
-use lookups::Found;
+use lookups::Sighted;
 use maps::Checked;
 use maps::HeaderMap;
 use maps::Status;
@@ -93,29 +93,31 @@ pub fn reason<'a>(m: HeaderMap, block: &'a [u8], store: &'a [u8]) -> &'a [u8]
 pub fn content_length<'a>(m: HeaderMap, block: &'a [u8], store: &'a [u8]) -> Length
     ensures { λ r. ⌜ r ≡ lengthOf m (now (block .entry)) (now (store .entry)) ⌝ }
 {
-    let found = lookups::find(m, block, store, b"Content-Length", 0);
+    let found = lookups::sight(m, block, store, b"Content-Length", 0);
     match found {
-        Found::At(i) => {
-            let value = lookups::value(m, block, store, i);
+        Sighted::At(i, f) => {
+            let p = f.value;
+            let value = maps::part(block, store, p);
             let n = lengths::content_length(value);
             Length::Is(n)
         }
-        Found::Missing => Length::Missing,
-        Found::Refused(x) => Length::Refused(x),
+        Sighted::Missing => Length::Missing,
+        Sighted::Refused(x) => Length::Refused(x),
     }
 }
 
 pub fn record_type<'a>(m: HeaderMap, block: &'a [u8], store: &'a [u8]) -> Kind
     ensures { λ r. ⌜ r ≡ kindOf m (now (block .entry)) (now (store .entry)) ⌝ }
 {
-    let found = lookups::find(m, block, store, b"WARC-Type", 0);
+    let found = lookups::sight(m, block, store, b"WARC-Type", 0);
     match found {
-        Found::At(i) => {
-            let value = lookups::value(m, block, store, i);
+        Sighted::At(i, f) => {
+            let p = f.value;
+            let value = maps::part(block, store, p);
             let n = types::record_type(value);
             Kind::Is(n)
         }
-        Found::Missing => Kind::Is(0),
-        Found::Refused(x) => Kind::Refused(x),
+        Sighted::Missing => Kind::Is(0),
+        Sighted::Refused(x) => Kind::Refused(x),
     }
 }

@@ -17,6 +17,8 @@ use Rattle.maps.specs.declared.Status.the-variants.{Absent, At as Stands}
 use Rattle.maps.specs.declared.HeaderMap.{HeaderMap}
 use Rattle.lookups.specs.declared.Found.{Found}
 use Rattle.lookups.specs.declared.Found.the-variants.{At, Missing, Refused}
+use Rattle.lookups.specs.declared.Sighted.{Sighted}
+use Rattle.lookups.specs.declared.Sighted.the-variants.{At as Sees, Missing as Unseen, Refused as Blind}
 use Rattle.lookups.specs.declared.Slot.{Slot}
 use Rattle.lookups.specs.declared.Slot.the-variants.{Nothing, At as Holds}
 
@@ -32,6 +34,16 @@ seeking p n (x ∷ xs) = if p x then At n else seeking p (n + 1) xs
 -- "A lookup from a given field number on gives missing or a field number."
 unfoldable pub finding : HeaderMap → List ℕ → List ℕ → List ℕ → ℕ → Found
 finding m b s name from = unless (checkedDone m b s) Refused (seeking (named b s name) from (drop from (live m)))
+
+-- a number that was found, with its field
+abbrev pub sightedIn : List Field → Found → Sighted
+sightedIn t (At i) = Sees i (getD t i noField)
+sightedIn t Missing = Unseen
+sightedIn t (Refused x) = Blind x
+
+-- a lookup that gives the field too
+unfoldable pub sighting : HeaderMap → List ℕ → List ℕ → List ℕ → ℕ → Sighted
+sighting m b s name from = sightedIn (m .table) (finding m b s name from)
 
 -- the field number i, none "for a wrong number .. or a refusal"
 unfoldable pub slotOf : HeaderMap → List ℕ → List ℕ → ℕ → Slot

@@ -9,10 +9,17 @@ ghost use mathlib.Core.Path.{_≡_};
 ghost use Prim.Native.Nat.{_≤_};
 ghost use denote.Ref.{ptr};
 ghost use lib.ListN.{take, drop};
-ghost use Rattle.lookups.specs.Lookups.{named, seeking, finding, slotOf, shownStatus, valuePlace, keyPlace, statusPlace, Handed};
+ghost use Rattle.lookups.specs.Lookups.{named, seeking, finding, sightedIn, sighting, slotOf, shownStatus, valuePlace, keyPlace, statusPlace, Handed};
 
 pub enum Found {
     At(usize),
+    Missing,
+    Refused(Refusal),
+}
+
+// A field that was found, with its number.
+pub enum Sighted {
+    At(usize, Field),
     Missing,
     Refused(Refusal),
 }
@@ -25,9 +32,9 @@ fn seek<'a>(
     store: &'a [u8],
     name: &[u8],
     from: usize,
-) -> Found
+) -> Sighted
     requires { ⌜ n ≤ 256 ⌝ }
-    ensures { λ r. ⌜ r ≡ seeking (named (now (block .entry)) (now (store .entry)) (now (name .entry))) from (drop from (take n t)) ⌝ }
+    ensures { λ r. ⌜ r ≡ sightedIn t (seeking (named (now (block .entry)) (now (store .entry)) (now (name .entry))) from (drop from (take n t))) ⌝ }
 {
     let mut i = from;
     while i < n {
@@ -35,16 +42,22 @@ fn seek<'a>(
         let p = f.key;
         let key = maps::part(block, store, p);
         if names::same_name(key, name) {
-            return Found::At(i);
+            return Sighted::At(i, f);
         }
         i += 1;
     }
-    Found::Missing
+    Sighted::Missing
 }
 
-// The number of the first field from a given number on that has a name.
-pub fn find<'a>(m: HeaderMap, block: &'a [u8], store: &'a [u8], name: &[u8], from: usize) -> Found
-    ensures { λ r. ⌜ r ≡ finding m (now (block .entry)) (now (store .entry)) (now (name .entry)) from ⌝ }
+// The first field from a given number on that has a name, with its number: who wants its value too need not have the map judged again.
+pub fn sight<'a>(
+    m: HeaderMap,
+    block: &'a [u8],
+    store: &'a [u8],
+    name: &[u8],
+    from: usize,
+) -> Sighted
+    ensures { λ r. ⌜ r ≡ sighting m (now (block .entry)) (now (store .entry)) (now (name .entry)) from ⌝ }
 {
     let s = maps::check_done(m, block, store);
     match s {
@@ -53,7 +66,19 @@ pub fn find<'a>(m: HeaderMap, block: &'a [u8], store: &'a [u8], name: &[u8], fro
             let n = m.fields;
             seek(t, n, block, store, name, from)
         }
-        Checked::Refused(x) => Found::Refused(x),
+        Checked::Refused(x) => Sighted::Refused(x),
+    }
+}
+
+// The number of the first field from a given number on that has a name.
+pub fn find<'a>(m: HeaderMap, block: &'a [u8], store: &'a [u8], name: &[u8], from: usize) -> Found
+    ensures { λ r. ⌜ r ≡ finding m (now (block .entry)) (now (store .entry)) (now (name .entry)) from ⌝ }
+{
+    let s = sight(m, block, store, name, from);
+    match s {
+        Sighted::At(i, f) => Found::At(i),
+        Sighted::Missing => Found::Missing,
+        Sighted::Refused(x) => Found::Refused(x),
     }
 }
 

@@ -1,7 +1,7 @@
 -- `lookups::seek` meets its contract. Assumes nothing.
 use mathlib.Core.List.{List}
 use Rattle.leaves.specs.Name.{sameName}
-use Rattle.lookups.specs.Lookups.{named, seeking}
+use Rattle.lookups.specs.Lookups.{named, seeking, sightedIn}
 use Rattle.lookups.proofs.SeekLaws.{seek-hit, seek-more, seek-end}
 use Rattle.lookups.proofs.seek.Statement.{statement}
 use Rattle.lookups.proofs.seek.Tie as tie
@@ -40,7 +40,7 @@ returns c =
     let w : s .n ≤ length (s .t1) = omega arith in
     let h : l .loop .i < s .n = omega arith in
     let e = sym (c .before .same-name .ensures ∙ ap (λ (x : List ℕ). sameName x (s .name .now)) (c .before .before .part .ensures .is)) ∙ c .if1 .taken in
-    sym (l .loop .inv ∙ seek-hit _ _ _ (named (s .block .now) (s .store .now) (s .name .now)) w h e)
+    sym (ap (sightedIn (s .t1)) (l .loop .inv ∙ seek-hit _ _ _ (named (s .block .now) (s .store .now) (s .name .now)) w h e))
 
 add-i : tie.Need-add-i Inv-loop μ-loop
 add-i c = search needs
@@ -62,7 +62,7 @@ returns-2 : tie.Need-returns-2 Inv-loop μ-loop
 returns-2 c =
     let l = c .before in
     let s = l .before .before .before .before .args in
-    sym (l .loop .inv ∙ seek-end _ _ _ (named (s .block .now) (s .store .now) (s .name .now)) (c .loop-test .left))
+    sym (ap (sightedIn (s .t1)) (l .loop .inv ∙ seek-end _ _ _ (named (s .block .now) (s .store .now) (s .name .now)) (c .loop-test .left)))
 
 pub seek-spec : {M : Type 1} → statement M
 seek-spec =
