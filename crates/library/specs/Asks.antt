@@ -98,6 +98,7 @@ pub record CallsAsk : Type 0 where
   pub clear : Free Rattle.reader.proofs.clear.Reads.Asked
   pub begin : Free Rattle.reader.proofs.begin.Reads.Asked
   pub find : Free Rattle.lookups.proofs.find.Reads.Asked
+  pub sight : Free Rattle.lookups.proofs.sight.Reads.Asked
   pub value : Free Rattle.lookups.proofs.value.Reads.Asked
   pub key : Free Rattle.lookups.proofs.key.Reads.Asked
   pub status : Free Rattle.lookups.proofs.status.Reads.Asked

@@ -4,7 +4,7 @@ use denote.Ref.{now, ptr}
 use Rattle.leaves.specs.Octets.{sameList}
 use Rattle.maps.specs.Maps.{Is}
 use Rattle.reader.specs.Calls.{beginning, clearing, feeding, finishing}
-use Rattle.lookups.specs.Lookups.{Handed, finding, keyPlace, statusPlace, valuePlace}
+use Rattle.lookups.specs.Lookups.{Handed, finding, keyPlace, sighting, statusPlace, valuePlace}
 use Rattle.edits.specs.Edits.{appending, removing, setting, statusing}
 use Rattle.writes.specs.Written.{Is as IsWritten, rebuilding, writing}
 use Rattle.equals.specs.Equal.{comparing}
@@ -32,6 +32,8 @@ pub record Calls : Type 0 where
   -- lookups
   -- find(m, block, store, name, from)
   pub find : Says Rattle.lookups.proofs.find.Reads.Learnt (λ κ a r e. r ≡ finding (first a) (now (second a)) (now (third a)) (now (fourth a)) (fifth a))
+  -- sight(m, block, store, name, from)
+  pub sight : Says Rattle.lookups.proofs.sight.Reads.Learnt (λ κ a r e. r ≡ sighting (first a) (now (second a)) (now (third a)) (now (fourth a)) (fifth a))
   -- value(m, block, store, i)
   pub value : Says Rattle.lookups.proofs.value.Reads.Learnt (λ κ a r e. Handed (now (second a)) (now (third a)) (ptr (second a)) (ptr (third a)) (valuePlace (first a) (now (second a)) (now (third a)) (fourth a)) (now r) (ptr r))
   -- key(m, block, store, i)
