@@ -7,7 +7,7 @@
  *           an octet past the map's limit or room. What a call may change must not overlap anything else that is lent to it.
  * Maps      A map is numbers only: places in its two loans. One that is all 0 is a map, or a walker, to begin with. They may be kept,
  *           copied and sent, and used again with the same loans; numbers that are damaged are refused by 3, and never followed.
- * Answers   Each call answers one of enum bisquecrow_answer: 0, a refusal (1 to 31) or a number from 64 on. `taken` is written at every
+ * Answers   Each call answers one of enum bisquecrow_answer: 0, a refusal (1 to 13; up to 31 are kept for more) or a number from 64 on. `taken` is written at every
  *           call, and is 0 where the numbers are damaged; what other pointers take is written with the answer that it belongs to.
  * Threads   The library has no state, so any threads may call it at once. Calls that change nothing may share a map.
  * Alignment The structs have what they need: 8 for a head and a trail, 4 for a table, 1 for lent octets.
@@ -52,8 +52,9 @@ extern "C" {
 #define BISQUECROW_DEFAULT_LIMIT 32768
 #define BISQUECROW_LARGEST 65536
 
-/* What a call takes of the stack at most (bindings/c/stack.c measures it). */
-#define BISQUECROW_STACK 65536 /* 56,552 were measured (bindings/c/stack.c), by the calls that take maps by value; 1,200 by those that read and walk */
+/* What a call takes of the stack at most. Measured (bindings/c/stack.c): 56,552 by clean, equal, resume and the other tests, which take maps by value;
+   1,200 by those that read and walk, less by edits, lookups and writing. */
+#define BISQUECROW_STACK 65536
 
 /* In a table, offsets of the store begin at this number. */
 #define BISQUECROW_STORE 2147483648u
@@ -159,7 +160,7 @@ enum bisquecrow_flags {
     BISQUECROW_QUIRKS = 2
 };
 
-/* head: limit, room, count, line start, mark, fields; the status' kind (0 absent, 1 block, 2 store), from and to; awaits, quirks, edited; phase
+/* head: limit, room, count, line start, mark, fields; the status' kind (0 absent, with from and to 0; 1 block, 2 store), from and to; awaits, quirks, edited; phase
    (1 Reading, 0 Done). table: four numbers to a field, key from, key to, value from, value to. */
 struct bisquecrow_map {
     uint64_t head[BISQUECROW_HEAD];
@@ -227,7 +228,7 @@ uint32_t bisquecrow_append(uint64_t *head, size_t head_length, uint32_t *table, 
                            const uint8_t *value, size_t value_length);
 uint32_t bisquecrow_remove(uint64_t *head, size_t head_length, uint32_t *table, size_t table_length, const uint8_t *block,
                            size_t block_length, const uint8_t *store, size_t store_length, const uint8_t *key, size_t key_length);
-uint32_t bisquecrow_set_status(uint64_t *head, size_t head_length, uint32_t *table, size_t table_length, const uint8_t *block,
+uint32_t bisquecrow_set_status(uint64_t *head, size_t head_length, const uint32_t *table, size_t table_length, const uint8_t *block,
                                size_t block_length, uint8_t *store, size_t store_length, const uint8_t *text, size_t text_length);
 
 uint32_t bisquecrow_write(const uint64_t *head, size_t head_length, const uint32_t *table, size_t table_length, const uint8_t *block,
@@ -269,7 +270,8 @@ uint32_t bisquecrow_end(uint64_t *trail, size_t trail_length, uint64_t *head, si
 
 /* ---- The same in fewer words. ---- */
 
-/* What a map, its two loans and a part are, as arguments. An empty part may have a null pointer; a call never gets one. */
+/* What a map, its two loans and a part are, as arguments. An empty part may have a null pointer; a call never gets one. An output
+   is not null. */
 #define BISQUECROW_MAP_(m, l)                                                                                                       \
     (m)->head, BISQUECROW_HEAD, (m)->table, BISQUECROW_TABLE, (l)->block, (l)->block_length, (l)->store, (l)->store_length
 #define BISQUECROW_PART_(p) ((p).octets != NULL ? (p).octets : (const uint8_t *)""), (p).length
@@ -549,7 +551,8 @@ static inline uint32_t bisquecrow_walker_start(struct bisquecrow_walker *w, cons
 
 /* Walks over a piece of the file: MORE, RECORD, BODY, END or a refusal, with the octets taken; call again with the rest of the piece. RECORD writes
    the record, and the walker's map is its header, which stands until the next one's first octet. The octets that BODY takes are a part of
-   the body. A refusal stops the walker: it repeats its number. */
+   the body. A refusal stops the walker: it repeats its number. Damaged
+   numbers are 3 and stay. */
 static inline uint32_t bisquecrow_walker_walk(struct bisquecrow_walker *w, const struct bisquecrow_loans *l, struct bisquecrow_part piece,
                                               size_t *taken, struct bisquecrow_record *record)
 {

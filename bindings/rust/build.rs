@@ -21,9 +21,8 @@ fn main() {
     let release = here.join("../lib");
     let folder = match env::var_os("BISQUECROW_LIB_DIR") {
         Some(folder) => folder.into(),
-        None => from_pkg_config()
-            .or_else(|| release.join(LIBRARY).is_file().then_some(release))
-            .unwrap_or_else(|| here.join("../../target/staticlib")),
+        None if release.join(LIBRARY).is_file() => release,
+        None => from_pkg_config().unwrap_or_else(|| here.join("../../target/staticlib")),
     };
     println!("cargo:rerun-if-changed={}", folder.join(LIBRARY).display());
     println!("cargo:rustc-link-search=native={}", folder.display());

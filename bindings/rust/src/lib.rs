@@ -36,7 +36,7 @@
 //! # Ok::<(), Box<dyn std::error::Error>>(())
 //! ```
 //!
-//! The static library is found by the environment variable `BISQUECROW_LIB_DIR`, else by `pkg-config`. It is for x86-64 Linux.
+//! The static library is found by the environment variable `BISQUECROW_LIB_DIR`, else beside the crate in a release, else by `pkg-config`. It is for x86-64 Linux.
 #![deny(missing_docs, unsafe_code)]
 
 mod answers;

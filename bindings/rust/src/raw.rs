@@ -47,7 +47,7 @@ extern "C" {
     fn bisquecrow_set(h: HM, hl: N, t: TM, tl: N, b: B, bl: N, s: BM, sl: N, k: B, kl: N, v: B, vl: N) -> u32;
     fn bisquecrow_append(h: HM, hl: N, t: TM, tl: N, b: B, bl: N, s: BM, sl: N, k: B, kl: N, v: B, vl: N) -> u32;
     fn bisquecrow_remove(h: HM, hl: N, t: TM, tl: N, b: B, bl: N, s: B, sl: N, k: B, kl: N) -> u32;
-    fn bisquecrow_set_status(h: HM, hl: N, t: TM, tl: N, b: B, bl: N, s: BM, sl: N, x: B, xl: N) -> u32;
+    fn bisquecrow_set_status(h: HM, hl: N, t: T, tl: N, b: B, bl: N, s: BM, sl: N, x: B, xl: N) -> u32;
     fn bisquecrow_write(h: H, hl: N, t: T, tl: N, b: B, bl: N, s: B, sl: N, o: BM, ol: N, count: Num) -> u32;
     fn bisquecrow_rebuild(h: H, hl: N, t: T, tl: N, b: B, bl: N, s: B, sl: N, o: BM, ol: N, count: Num) -> u32;
     fn bisquecrow_status_code(h: H, hl: N, t: T, tl: N, b: B, bl: N, s: B, sl: N, code: Num) -> u32;
