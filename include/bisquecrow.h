@@ -52,7 +52,7 @@ extern "C" {
 #define BISQUECROW_DEFAULT_LIMIT 32768
 #define BISQUECROW_LARGEST 65536
 
-/* What a call takes of the stack at most. Measured (bindings/c/stack.c): 56,552 by clean, equal, resume and the other tests, which take maps by value;
+/* What a call takes of the stack at most. Measured (bindings/c/stack.c): 50,471 by clean, equal, resume and the other tests, which take maps by value;
    1,200 by those that read and walk, less by edits, lookups and writing. */
 #define BISQUECROW_STACK 65536
 
