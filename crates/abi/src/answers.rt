@@ -6,7 +6,6 @@ use edits::Edit;
 use equals::Equal;
 use leaves::refusals;
 use leaves::refusals::Refusal;
-use lookups::Found;
 use maps::Checked;
 use reader::Answer;
 use resume::Verdict;
@@ -18,7 +17,6 @@ ghost use Rattle.leaves.specs.Refusals.{number};
 ghost use Rattle.maps.specs.Answers.{told as checkedOf};
 ghost use Rattle.reader.specs.Answers.{told as answerOf};
 ghost use Rattle.edits.specs.Answers.{told as editOf};
-ghost use Rattle.lookups.specs.Answers.{told as foundOf};
 ghost use Rattle.writes.specs.Answers.{told as wroteOf};
 ghost use Rattle.equals.specs.Answers.{told as equalOf};
 ghost use Rattle.tests.specs.Answers.{told as testOf};
@@ -28,7 +26,7 @@ ghost use Rattle.resume.specs.Answers.{told as verdictOf};
 
 pub const DONE: u32 = 0;
 
-// Octets that are no map's or no walker's.
+// Numbers that are no map's or no walker's.
 pub const DAMAGED: u32 = 3;
 
 pub const MISSING: u32 = 68;
@@ -74,16 +72,6 @@ pub fn edited(e: Edit) -> u32
     match e {
         Edit::Done => 0,
         Edit::Refused(x) => refused(x),
-    }
-}
-
-pub fn found(f: Found) -> u32
-    ensures { λ r. ⌜ r ≡ foundOf f ⌝ }
-{
-    match f {
-        Found::At(i) => 67,
-        Found::Missing => 68,
-        Found::Refused(e) => refused(e),
     }
 }
 

@@ -214,21 +214,6 @@ module _ (t : List ℕ) (l : List Field) (long : length l ≡ 256) where
       let w : n ≤ length (tableOf t) = rw (fields-length t 0 256) h in
       p ∙ ap (paste l 0 (tableOf t)) e ∙ paste-lay l (tableOf t) n w ∙ ap (lay l) (fields-take t 0 256 n h)
 
--- and one that copies them in
-module _ (l s : List Field) (long : length s ≡ 256) where
-  pub in-step : (t : List ℕ) (i : ℕ) → i < 256 → length t ≡ 1024 → Fit 65536 65536 (getD s i noField) → length l ≡ 256
-      → tableOf t ≡ paste l 0 s i → tableOf (fieldPut t i (getD s i noField)) ≡ paste l 0 s (i + 1)
-  in-step t i h k w m p =
-      let a : 0 + i < length l = omega (arith, h, m) in
-      let b : i < length s = omega (arith, h, long) in
-      let j : i ≡ 0 + i = omega arith in
-      fields-set t i (getD s i noField) k h w ∙ rw (p, add-one i) (ap (λ (k : ℕ). set (paste l 0 s i) k (getD s i noField)) j ∙ paste-suc l 0 s i noField a b)
-
-  pub in-end : (u : List Field) (n i : ℕ) → n ≤ 256 → i ≤ n → n ≤ i → u ≡ paste l 0 s i → u ≡ lay l (take n s)
-  in-end u n i h a b p =
-      let e : i ≡ n = omega (arith, a, b) in
-      p ∙ ap (paste l 0 s) e ∙ paste-lay l s n (omega (arith, h, long))
-
 -- the fields that count are those of the lent table, whatever the head says
 module _ (t : List ℕ) (h : Head) where
   pub live-same : take (h .fields) (liveIn t h .table) ≡ take (h .fields) (tableOf t)

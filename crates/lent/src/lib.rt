@@ -12,11 +12,11 @@ use maps::Place;
 ghost use mathlib.Core.Path.{_≡_};
 ghost use mathlib.Core.Bool.{true};
 ghost use Prim.Native.Nat.{_≤_, min};
-ghost use lib.ListN.{length, take, replicate};
+ghost use lib.ListN.{length, replicate};
 ghost use Rattle.leaves.specs.Paste.{lay};
 ghost use Rattle.maps.specs.Places.{noField};
-ghost use Rattle.maps.specs.Good.{FitAll, good, checked, checkedDone};
-ghost use Rattle.lent.specs.Table.{fieldsFrom, tableOf, mapIn, liveIn};
+ghost use Rattle.maps.specs.Good.{good, checked, checkedDone};
+ghost use Rattle.lent.specs.Table.{fieldsFrom, mapIn, liveIn};
 ghost use Rattle.lent.specs.Numbers.{headOf, soundMap, longMap};
 
 // How many numbers a table is.
@@ -128,19 +128,6 @@ pub fn live_map(h: Head, t: &[u32]) -> HeaderMap
         quirks: h.quirks,
         edited: h.edited,
         phase,
-    }
-}
-
-// The first n fields of a table by value, over the lent one's start.
-pub fn put_fields(table: [Field; 256], n: usize, t: &mut [u32])
-    requires { ⌜ (n ≤ 256) × (length (now t) ≡ 1024) × FitAll 65536 65536 (take n table) ⌝ }
-    ensures { λ _. ⌜ (tableOf (now (t .exit)) ≡ lay (tableOf (now (t .entry))) (take n table)) × (length (now (t .exit)) ≡ 1024) ⌝ }
-{
-    let mut i = 0;
-    while i < n {
-        let f = table[i];
-        tables::put_field(t, i, f);
-        i += 1;
     }
 }
 

@@ -132,7 +132,6 @@ pub record LentAsk : Type 0 where
   pub check : Asks Rattle.lent.proofs.check.Reads.Asked (λ κ a. length (now (second a)) ≡ 1024)
   pub check-done : Asks Rattle.lent.proofs.check_done.Reads.Asked (λ κ a. length (now (second a)) ≡ 1024)
   pub live-map : Asks Rattle.lent.proofs.live_map.Reads.Asked (λ κ a. length (now (second a)) ≡ 1024)
-  pub put-fields : Asks Rattle.lent.proofs.put_fields.Reads.Asked (λ κ a. ((second a) ≤ 256) × (length (now (third a)) ≡ 1024) × FitAll 65536 65536 (take (second a) (first a)))
   pub is-sound : Free Rattle.lent.proofs.is_sound.Reads.Asked
   pub is-long : Free Rattle.lent.proofs.is_long.Reads.Asked
   pub live-at : Asks Rattle.lent.proofs.live_at.Reads.Asked (λ κ a. soundMap (now (first a)) (now (second a)) ≡ true)

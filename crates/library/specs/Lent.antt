@@ -2,9 +2,8 @@
 use mathlib.Core.Path.{_≡_}
 use mathlib.Core.List.{List}
 use Prim.Native.Nat.{_-_}
-use lib.ListN.{length, take}
+use lib.ListN.{length}
 use denote.Ref.{now}
-use Rattle.leaves.specs.Paste.{lay}
 use Rattle.maps.specs.Good.{checked, checkedDone, goodFields}
 use Rattle.maps.specs.Heads.{under, unmadeHead}
 use Rattle.maps.specs.Maps.{Is}
@@ -31,8 +30,6 @@ pub record Lent : Type 0 where
   pub check-done : Says Rattle.lent.proofs.check_done.Reads.Learnt (λ κ a r e. r ≡ checkedDone (mapIn (now (second a)) (first a)) (now (third a)) (now (fourth a)))
   -- live_map(h, t)
   pub live-map : Says Rattle.lent.proofs.live_map.Reads.Learnt (λ κ a r e. r ≡ liveIn (now (second a)) (first a))
-  -- put_fields(table, n, t)
-  pub put-fields : Says Rattle.lent.proofs.put_fields.Reads.Learnt (λ κ a r e. (tableOf (now (third e)) ≡ lay (tableOf (now (third a))) (take (second a) (first a))) × (length (now (third e)) ≡ 1024))
   -- is_sound(n, t)
   pub is-sound : Says Rattle.lent.proofs.is_sound.Reads.Learnt (λ κ a r e. r ≡ soundMap (now (first a)) (now (second a)))
   -- is_long(n, t)
