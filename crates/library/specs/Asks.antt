@@ -7,7 +7,7 @@ use denote.Ref.{now}
 use Rattle.leaves.specs.Class.{Classified}
 use Rattle.leaves.specs.Octets.{before}
 use Rattle.leaves.specs.Sanitise.{sanitised}
-use Rattle.maps.specs.Good.{Fit, FitAll, checkedDone}
+use Rattle.maps.specs.Good.{Fit, checkedDone}
 use Rattle.maps.specs.Said.{statusAt}
 use Rattle.maps.specs.declared.Checked.the-variants.{Fine}
 use Rattle.folds.specs.Asks.{FoldReady}
