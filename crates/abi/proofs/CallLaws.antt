@@ -23,10 +23,10 @@ use Rattle.maps.specs.declared.HeaderMap.{HeaderMap}
 use Rattle.maps.specs.declared.Place.{Place}
 use Rattle.maps.specs.declared.Field.{Field}
 use Rattle.lookups.specs.Lookups.{named, seeking, finding, slotOf, shownStatus}
-use Rattle.lookups.specs.declared.Slot.the-variants.{Nothing, At as Holds}
+use Rattle.lookups.specs.declared.Slot.the-variants.{Nothing, Holds}
 use Rattle.lookups.proofs.HandLaws.{slot-fine, slot-wrong, status-fine}
 use Rattle.lookups.specs.declared.Found.{Found}
-use Rattle.lookups.specs.declared.Found.the-variants.{At, Missing, Refused as Unfound}
+use Rattle.lookups.specs.declared.Found.the-variants.{Nth, Missing, Refused as Unfound}
 use Rattle.reader.specs.declared.Made.{Made}
 use Rattle.lent.specs.Table.{mapIn, fieldAt, fieldsFrom, numbersOf}
 use Rattle.lent.specs.Numbers.{headNumbers, statusOf, soundMap, longMap, mapOf}
@@ -177,17 +177,17 @@ below-by p t n zero i e h = tt
 below-by p t n (suc k) i e h =
     let l : i < 256 = omega (arith, e, h) in
     let d : k ≡ n - (i + 1) = omega (arith, e) in
-    by-if Below (p (fieldAt t i)) (At i) (seeking p (i + 1) (fieldsFrom t (i + 1) k)) (λ _. l) (λ _. below-by p t n k (i + 1) d h)
+    by-if Below (p (fieldAt t i)) (Nth i) (seeking p (i + 1) (fieldsFrom t (i + 1) k)) (λ _. l) (λ _. below-by p t n k (i + 1) d h)
 
 pub seek-below : (p : Field → Bool) (t : List ℕ) (n i : ℕ) → n ≤ 256 → Below (seeking p i (fieldsFrom t i (n - i)))
 seek-below p t n i h = below-by p t n (n - i) i refl h
 
 -- the field that was found
-pub found-few : (found : Found) (i : ℕ) → found ≡ At i → Below found → i < 256
+pub found-few : (found : Found) (i : ℕ) → found ≡ Nth i → Below found → i < 256
 found-few found i q b = rw q at b
 
 module _ (t : List ℕ) (h : Head) (k f e : ℕ) (found : Found) where
-  pub seen-found : (i : ℕ) (x : Field) (r f′ e′ : ℕ) → found ≡ At i → Below found → x ≡ fieldAt t i → Lies (placeLies (x .value)) r f′ e′ → Sees (seenAt (mapIn t h) k f e found) r i f′ e′
+  pub seen-found : (i : ℕ) (x : Field) (r f′ e′ : ℕ) → found ≡ Nth i → Below found → x ≡ fieldAt t i → Lies (placeLies (x .value)) r f′ e′ → Sees (seenAt (mapIn t h) k f e found) r i f′ e′
   seen-found i x r f′ e′ q b w l =
       let v : Lies (placeLies (fieldAt t i .value)) r f′ e′ = rw w at l in
       rw (q, fields-at t 256 i (found-few found i q b)) (record { number = refl; place = v })

@@ -7,10 +7,10 @@ use Rattle.leaves.specs.Choice.{if_then_else_}
 use Rattle.leaves.proofs.ChoiceLaws.{if-true}
 use Rattle.maps.specs.declared.Head.{Head}
 use Rattle.maps.specs.declared.HeaderMap.{HeaderMap}
-use Rattle.tests.specs.Tests.{cleaning}
-use Rattle.tests.specs.Answers.{told as testOf}
-use Rattle.tests.specs.declared.Test.{Test}
-use Rattle.tests.proofs.BehindLaws.{cleaning-behind}
+use Rattle.tidy.specs.Calls.{cleaning}
+use Rattle.tidy.specs.Answers.{told as testOf}
+use Rattle.tidy.specs.declared.Test.{Test}
+use Rattle.tidy.proofs.BehindLaws.{cleaning-behind}
 use Rattle.equals.specs.Equal.{comparing}
 use Rattle.equals.specs.Answers.{told as equalOf}
 use Rattle.equals.specs.declared.Equal.{Equal}
@@ -19,7 +19,7 @@ use Rattle.resume.specs.Resume.{resuming}
 use Rattle.resume.specs.Answers.{told as verdictOf}
 use Rattle.resume.specs.declared.Verdict.{Verdict}
 use Rattle.resume.proofs.BehindLaws.{resuming-behind}
-use Rattle.writes.specs.Written.{Given, Is}
+use Rattle.writes.specs.Written.{Writing, IsWritten}
 use Rattle.writes.specs.Answers.{told as wroteOf}
 use Rattle.writes.specs.declared.Wrote.{Wrote}
 use Rattle.lent.specs.Table.{mapIn, tableOf, liveIn}
@@ -37,13 +37,13 @@ module _ (n t b s : List ℕ) (h : Head) (w : soundMap n t ≡ true) (e : h ≡ 
       let g : x ≡ of (mapOf n t) b s = f ∙ ap (λ (y : Head). of (mapIn t y) b s) e in
       told-sound _ k r k′ (soundMap n t) w (p ∙ ap answer g) (q ∙ ap (λ (y : A). number y k) g)
 
-  pub put-head : (of : HeaderMap → List ℕ → List ℕ → List ℕ → Given) (x : Wrote) (d d′ : List ℕ) (k r k′ : ℕ)
-      → Is (of (mapIn t h) b s d) x d′ → r ≡ wroteOf x → k′ ≡ countNumber x k
+  pub put-head : (of : HeaderMap → List ℕ → List ℕ → List ℕ → Writing) (x : Wrote) (d d′ : List ℕ) (k r k′ : ℕ)
+      → IsWritten (of (mapIn t h) b s d) x d′ → r ≡ wroteOf x → k′ ≡ countNumber x k
       → Puts (if soundMap n t then putOf k (of (mapOf n t) b s d) else putsDamaged k d) r k′ d′
   put-head of x d d′ k r k′ i p q =
       let g : of (mapIn t h) b s d ≡ of (mapOf n t) b s d = ap (λ (y : Head). of (mapIn t y) b s d) e in
-      let f : x ≡ of (mapOf n t) b s d .result = i .result ∙ ap (λ (y : Given). y .result) g in
-      put-sound (putOf k (of (mapOf n t) b s d)) k d r k′ d′ (soundMap n t) w (p ∙ ap wroteOf f) (q ∙ ap (λ (y : Wrote). countNumber y k) f) (i .out ∙ ap (λ (y : Given). y .out) g)
+      let f : x ≡ of (mapOf n t) b s d .result = i .result ∙ ap (λ (y : Writing). y .result) g in
+      put-sound (putOf k (of (mapOf n t) b s d)) k d r k′ d′ (soundMap n t) w (p ∙ ap wroteOf f) (q ∙ ap (λ (y : Wrote). countNumber y k) f) (i .out ∙ ap (λ (y : Writing). y .out) g)
 
 -- over maps by value
 module _ (n t b s : List ℕ) (one : HeaderMap) (e : one ≡ liveIn t (headOf n)) where

@@ -24,8 +24,8 @@ use Rattle.edits.specs.Edits.{setting, appending, removing, statusing}
 use Rattle.edits.specs.declared.Edited.{Edited}
 use Rattle.lookups.specs.Lookups.{finding, valuePlace, keyPlace, statusPlace}
 use Rattle.lookups.specs.declared.Found.{Found}
-use Rattle.lookups.specs.declared.Found.the-variants.{At, Missing, Refused as Unfound}
-use Rattle.writes.specs.Written.{writing, rebuilding, Given as Writing}
+use Rattle.lookups.specs.declared.Found.the-variants.{Nth, Missing, Refused as Unfound}
+use Rattle.writes.specs.Written.{writing, rebuilding, Writing}
 use Rattle.writes.specs.declared.Wrote.{Wrote}
 use Rattle.writes.specs.declared.Wrote.the-variants.{Count, Refused as Unwritten}
 use Rattle.codes.specs.Codes.{coding, lengthOf as lengthIn, kindOf as kindIn}
@@ -36,7 +36,7 @@ use Rattle.codes.specs.declared.Length.{Length}
 use Rattle.codes.specs.declared.Length.the-variants.{Is as LengthIs, Missing as NoLength, Refused as Unmeasured}
 use Rattle.codes.specs.declared.Kind.{Kind}
 use Rattle.codes.specs.declared.Kind.the-variants.{Is as KindIs, Refused as Untyped}
-use Rattle.tests.specs.Tests.{cleaning, tidying}
+use Rattle.tidy.specs.Calls.{cleaning, tidying}
 use Rattle.grammar.specs.Walk.{grammatical}
 use Rattle.equals.specs.Equal.{comparing}
 use Rattle.resume.specs.Resume.{resuming}
@@ -54,7 +54,7 @@ use Rattle.reader.specs.Answers.{told as answerOf}
 use Rattle.edits.specs.Answers.{told as editOf}
 use Rattle.writes.specs.Answers.{told as wroteOf}
 use Rattle.equals.specs.Answers.{told as equalOf}
-use Rattle.tests.specs.Answers.{told as testOf}
+use Rattle.tidy.specs.Answers.{told as testOf}
 use Rattle.codes.specs.Answers.{codeAnswer as codeOf, lengthAnswer as lengthOf, kindAnswer as kindOf}
 use Rattle.walker.specs.Answers.{told as stepOf, startAnswer}
 use Rattle.resume.specs.Answers.{told as verdictOf}
@@ -362,12 +362,12 @@ pub record Sees (o : Sight) (r k f e : ℕ) : Type 0 where
 
 -- a field that a table has
 abbrev pub Below : Found → Type 0
-Below (At i) = i < 256
+Below (Nth i) = i < 256
 Below Missing = Unit {0}
 Below (Unfound x) = Unit {0}
 
 abbrev pub seenAt : HeaderMap → ℕ → ℕ → ℕ → Found → Sight
-seenAt m k f e (At i) = record { number = i; place = placeLies (getD (m .table) i noField .value) }
+seenAt m k f e (Nth i) = record { number = i; place = placeLies (getD (m .table) i noField .value) }
 seenAt m k f e Missing = record { number = k; place = noneLies missing f e }
 seenAt m k f e (Unfound x) = record { number = k; place = noneLies (number x) f e }
 

@@ -69,7 +69,7 @@ fn put_found(
     ensures { λ r. ⌜ Sees (seenAt (mapIn (now (table .entry)) h) (now (number .entry)) (now (from .entry)) (now (to .entry)) found) r (now (number .exit)) (now (from .exit)) (now (to .exit)) ⌝ }
 {
     match found {
-        Found::At(i) => {
+        Found::Nth(i) => {
             *number = i as u64;
             let f = tables::field_at(table, i);
             let p = f.value;
@@ -212,7 +212,7 @@ fn put_reason<'a>(p: Place, block: &'a [u8], store: &'a [u8], from: &mut u64, to
 {
     let text = maps::part(block, store, p);
     match line::reason_start(text) {
-        Start::At(k) => put_rest(p, k, from, to),
+        Start::Begins(k) => put_rest(p, k, from, to),
         Start::None => answers::MISSING,
     }
 }

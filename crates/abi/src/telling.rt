@@ -116,7 +116,7 @@ pub extern "C" fn bisquecrow_clean<'a>(
 {
     if lent::is_sound(head, table) {
         let m = lent::live_at(head, table);
-        let t = tests::clean(m, block, store);
+        let t = tidy::clean(m, block, store);
         return answers::tested(t);
     }
     answers::DAMAGED
@@ -127,7 +127,7 @@ pub extern "C" fn bisquecrow_clean<'a>(
 pub extern "C" fn bisquecrow_tidy(octets: &[u8], awaits: bool, quirks: bool, limit: usize) -> u32
     ensures { λ r. ⌜ r ≡ tidyTells (now (octets .entry)) awaits quirks limit ⌝ }
 {
-    let t = tests::tidy(octets, awaits, quirks, limit);
+    let t = tidy::tidy(octets, awaits, quirks, limit);
     answers::tested(t)
 }
 

@@ -15,7 +15,7 @@ use Rattle.leaves.specs.Octets.{octets, before, sameList}
 use Rattle.leaves.proofs.NameLaws.{apart}
 use Rattle.codes.specs.declared.line.Code.{Code}
 use Rattle.codes.specs.declared.line.Code.the-variants.{None}
-use Rattle.codes.specs.declared.line.Start.the-variants.{At, None as NoStart}
+use Rattle.codes.specs.declared.line.Start.the-variants.{Begins, None as NoStart}
 use Rattle.codes.specs.Line.{isHttp, behindSpace, thence, untilSpace, withoutPlus, smallNumber, statusCode, reasonStart}
 use Rattle.codes.specs.Told.{codeTold, startTold}
 
@@ -28,7 +28,7 @@ unfolding isHttp
 http-is s t e = e
 
 -- what an answer tells
-pub told-at : (o : Option ℕ) (k : ℕ) → startTold o ≡ At k → o ≡ some k
+pub told-at : (o : Option ℕ) (k : ℕ) → startTold o ≡ Begins k → o ≡ some k
 told-at none k e = clash (cc)
 told-at (some j) k e = let z : j ≡ k = cc in ap some z
 

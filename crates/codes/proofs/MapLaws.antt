@@ -15,7 +15,7 @@ use Rattle.maps.specs.declared.Checked.the-variants.{Fine, Refused as Bad}
 use Rattle.maps.specs.declared.HeaderMap.{HeaderMap}
 use Rattle.maps.specs.declared.Status.{Status}
 use Rattle.lookups.specs.Lookups.{finding, statusIn, statusPlace, valuePlace, handedOut, Handed}
-use Rattle.lookups.specs.declared.Found.the-variants.{At, Missing as NotThere, Refused as NotLooked}
+use Rattle.lookups.specs.declared.Found.the-variants.{Nth, Missing as NotThere, Refused as NotLooked}
 use Rattle.maps.specs.Said.{textOf, saying}
 use Rattle.lookups.proofs.HandLaws.{status-fine, text-says}
 use Rattle.codes.specs.Line.{statusCode, reasonStart}
@@ -74,11 +74,11 @@ module _ (m : HeaderMap) (b s : List ℕ) where
 
   -- by what the lookup found
   module _ (i : ℕ) (v : List ℕ) (n : ℕ) (p : v ≡ handedOut b s (valuePlace m b s i)) where
-    pub length-found : finding m b s (nameOf ContentLength) 0 ≡ At i → n ≡ contentLength v → IsLength n ≡ lengthOf m b s
+    pub length-found : finding m b s (nameOf ContentLength) 0 ≡ Nth i → n ≡ contentLength v → IsLength n ≡ lengthOf m b s
     unfolding lengthOf
     length-found e q = rw e (ap IsLength (q ∙ ap contentLength p))
 
-    pub kind-found : finding m b s (nameOf WarcType) 0 ≡ At i → n ≡ typeCode v → IsKind n ≡ kindOf m b s
+    pub kind-found : finding m b s (nameOf WarcType) 0 ≡ Nth i → n ≡ typeCode v → IsKind n ≡ kindOf m b s
     unfolding kindOf
     kind-found e q = rw e (ap IsKind (q ∙ ap typeCode p))
 

@@ -12,7 +12,7 @@ use Rattle.maps.specs.Places.{Same}
 use Rattle.maps.specs.declared.HeaderMap.{HeaderMap}
 use Rattle.lookups.specs.Lookups.{finding, statusPlace, valuePlace, handedOut, handedAt}
 use Rattle.lookups.specs.declared.Found.{Found}
-use Rattle.lookups.specs.declared.Found.the-variants.{At, Missing as NotThere, Refused as NotLooked}
+use Rattle.lookups.specs.declared.Found.the-variants.{Nth, Missing as NotThere, Refused as NotLooked}
 use Rattle.codes.specs.Line.{statusCode, reasonStart, reasonPhrase}
 use Rattle.codes.specs.Told.{codeTold}
 use Rattle.codes.specs.declared.line.Code.{Code}
@@ -51,7 +51,7 @@ pub record Phrased (m : HeaderMap) (b s : List ℕ) (x y : ℕ × ℕ) (r : List
 
 -- by what a lookup found: the content length of the value
 abbrev pub lengthTold : HeaderMap → List ℕ → List ℕ → Found → Length
-lengthTold m b s (At i) = IsLength (contentLength (handedOut b s (valuePlace m b s i)))
+lengthTold m b s (Nth i) = IsLength (contentLength (handedOut b s (valuePlace m b s i)))
 lengthTold m b s NotThere = Missing
 lengthTold m b s (NotLooked x) = NoLength x
 
@@ -61,7 +61,7 @@ lengthOf m b s = lengthTold m b s (finding m b s (nameOf ContentLength) 0)
 
 -- "no field 0"
 abbrev pub kindTold : HeaderMap → List ℕ → List ℕ → Found → Kind
-kindTold m b s (At i) = IsKind (typeCode (handedOut b s (valuePlace m b s i)))
+kindTold m b s (Nth i) = IsKind (typeCode (handedOut b s (valuePlace m b s i)))
 kindTold m b s NotThere = IsKind 0
 kindTold m b s (NotLooked x) = NoKind x
 

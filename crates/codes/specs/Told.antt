@@ -4,7 +4,7 @@ use Prim.Native.Nat.{ℕ}
 use Rattle.codes.specs.declared.line.Code.{Code}
 use Rattle.codes.specs.declared.line.Code.the-variants.{Is, None as NoCode}
 use Rattle.codes.specs.declared.line.Start.{Start}
-use Rattle.codes.specs.declared.line.Start.the-variants.{At, None as NoStart}
+use Rattle.codes.specs.declared.line.Start.the-variants.{Begins, None as NoStart}
 
 abbrev pub codeTold : Option ℕ → Code
 codeTold none = NoCode
@@ -12,4 +12,4 @@ codeTold (some n) = Is n
 
 abbrev pub startTold : Option ℕ → Start
 startTold none = NoStart
-startTold (some k) = At k
+startTold (some k) = Begins k

@@ -70,7 +70,7 @@ pub fn has_reason<'a>(m: HeaderMap, block: &'a [u8], store: &'a [u8]) -> Phrase
             let text = status_text(status, block, store);
             let start = line::reason_start(text);
             match start {
-                Start::At(k) => Phrase::Stands,
+                Start::Begins(k) => Phrase::Stands,
                 Start::None => Phrase::None,
             }
         }
@@ -85,7 +85,7 @@ pub fn reason<'a>(m: HeaderMap, block: &'a [u8], store: &'a [u8]) -> &'a [u8]
     let text = lookups::status(m, block, store);
     let start = line::reason_start(text);
     match start {
-        Start::At(k) => &text[k..],
+        Start::Begins(k) => &text[k..],
         Start::None => &block[0..0],
     }
 }
@@ -95,7 +95,7 @@ pub fn content_length<'a>(m: HeaderMap, block: &'a [u8], store: &'a [u8]) -> Len
 {
     let found = lookups::sight(m, block, store, b"Content-Length", 0);
     match found {
-        Sighted::At(i, f) => {
+        Sighted::Sees(i, f) => {
             let p = f.value;
             let value = maps::part(block, store, p);
             let n = lengths::content_length(value);
@@ -111,7 +111,7 @@ pub fn record_type<'a>(m: HeaderMap, block: &'a [u8], store: &'a [u8]) -> Kind
 {
     let found = lookups::sight(m, block, store, b"WARC-Type", 0);
     match found {
-        Sighted::At(i, f) => {
+        Sighted::Sees(i, f) => {
             let p = f.value;
             let value = maps::part(block, store, p);
             let n = types::record_type(value);

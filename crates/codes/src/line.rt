@@ -16,7 +16,7 @@ pub enum Code {
 
 // Where a part of a text starts, if it has one.
 pub enum Start {
-    At(usize),
+    Begins(usize),
     None,
 }
 
@@ -36,7 +36,7 @@ fn behind_space(text: &[u8], from: usize) -> Start
 {
     let i = lines::find_octet(text, from, 32);
     if i < text.len() {
-        return Start::At(i + 1);
+        return Start::Begins(i + 1);
     }
     Start::None
 }
@@ -74,7 +74,7 @@ pub fn code_of(text: &[u8]) -> Code
     if is_http(text) {
         let start = behind_space(text, 0);
         match start {
-            Start::At(k) => {
+            Start::Begins(k) => {
                 let end = lines::find_octet(text, k, 32);
                 let digits = without_plus(&text[k..end]);
                 small_number(digits)
@@ -93,7 +93,7 @@ pub fn reason_start(text: &[u8]) -> Start
     if is_http(text) {
         let start = behind_space(text, 0);
         match start {
-            Start::At(k) => behind_space(text, k),
+            Start::Begins(k) => behind_space(text, k),
             Start::None => Start::None,
         }
     } else {

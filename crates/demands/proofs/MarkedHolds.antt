@@ -21,9 +21,9 @@ use Rattle.maps.specs.Said.{saying}
 use Rattle.writes.specs.Written.{pairLine, pairLines, statusLine, rebuilt, written, giving, writing}
 use Rattle.codes.specs.Line.{isHttp, behindSpace, withoutPlus, smallNumber, statusCode, reasonStart}
 use Rattle.codes.specs.Codes.{coding}
-use Rattle.tidy.specs.Clean.{neat, cleanPair, cleanPairs, cleanStatus, clean, tidyAfter, tidy}
+use Rattle.rebuilds.specs.Clean.{neat, cleanPair, cleanPairs, cleanStatus, clean, tidyAfter, tidy}
 use Rattle.readings.specs.Listening.{said}
-use Rattle.tests.specs.Tests.{cleaning, tidying}
+use Rattle.tidy.specs.Calls.{cleaning, tidying}
 use Rattle.demands.specs.Marked.{table, holds}
 
 -- "M1 to M12 are shown of the definitions by a single table and one fact over it": every row gives what it says

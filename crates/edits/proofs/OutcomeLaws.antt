@@ -23,11 +23,11 @@ use Rattle.lookups.specs.Lookups.{named}
 use Rattle.edits.specs.declared.Edit.the-variants.{Done, Refused}
 use Rattle.edits.specs.declared.Edited.{Edited}
 use Rattle.edits.specs.Fields.{replaced}
-use Rattle.edits.specs.Edits.{refusing, done, changing, editing, filled, setting, appending, removing, leaving, thinned, withStatus, statusing}
+use Rattle.edits.specs.Edits.{refusing, done, changing, editing, withField, setting, appending, removing, leaving, thinned, withStatus, statusing}
 use Rattle.edits.proofs.PutLaws.{keeps-short}
 
 -- what held when an edit gave the map n, with the text t at the mark
-pub record Made (m : HeaderMap) (b s : List ℕ) (n : HeaderMap) (t : List ℕ) (g : Given Edited) : Type 0 where
+pub record Outcome (m : HeaderMap) (b s : List ℕ) (n : HeaderMap) (t : List ℕ) (g : Given Edited) : Type 0 where
   pub fine : Fine ≡ checkedDone m b s
   pub few : n .fields ≤ 256
   pub fits : m .mark + length t ≤ m .room
@@ -37,7 +37,7 @@ pub data Outcome (m : HeaderMap) (b s : List ℕ) (n : HeaderMap) (t : List ℕ)
   refused : (x : Refusal) → No x ≡ checkedDone m b s → g ≡ refusing m b s x → Outcome m b s n t g
   over : Fine ≡ checkedDone m b s → 256 < n .fields → g ≡ refusing m b s FieldsFull → Outcome m b s n t g
   full : Fine ≡ checkedDone m b s → n .fields ≤ 256 → m .room < m .mark + length t → g ≡ refusing m b s StoreFull → Outcome m b s n t g
-  made : Made m b s n t g → Outcome m b s n t g
+  made : Outcome m b s n t g → Outcome m b s n t g
 
 -- all is left by one number alone
 left-by : {m : HeaderMap} {b s : List ℕ} {g : Given Edited} (y : Refusal) → g ≡ refusing m b s y → (x : Refusal) → g .result .answer ≡ Refused x
@@ -49,11 +49,11 @@ left-by y e x d =
 
 module _ {m : HeaderMap} {b s : List ℕ} {n : HeaderMap} {t : List ℕ} {g : Given Edited} where
   -- if all is left, nothing is made
-  left-not-done : (y : Refusal) → g ≡ refusing m b s y → g .result .answer ≡ Done → Made m b s n t g
+  left-not-done : (y : Refusal) → g ≡ refusing m b s y → g .result .answer ≡ Done → Outcome m b s n t g
   left-not-done y e d = clash (cc (ap (λ (u : Given Edited). u .result .answer) e))
 
   -- an edit that is done has made its map
-  pub made-of : Outcome m b s n t g → g .result .answer ≡ Done → Made m b s n t g
+  pub made-of : Outcome m b s n t g → g .result .answer ≡ Done → Outcome m b s n t g
   made-of (refused x h e) d = left-not-done x e d
   made-of (over f h e) d = left-not-done FieldsFull e d
   made-of (full f h k e) d = left-not-done StoreFull e d
@@ -132,11 +132,11 @@ module _ (m : HeaderMap) (b s : List ℕ) where
     removing-outcome = removing-by (checkedDone m b s) refl
 
   module _ (key value : List ℕ) where
-    pub setting-outcome : Outcome m b s (filled m (λ new. replaced (named b s (sanitised true key)) new (live m)) (sanitised true key) (sanitised false value)) (sanitised true key ++ sanitised false value) (setting m b s key value)
+    pub setting-outcome : Outcome m b s (withField m (λ new. replaced (named b s (sanitised true key)) new (live m)) (sanitised true key) (sanitised false value)) (sanitised true key ++ sanitised false value) (setting m b s key value)
     unfolding setting
     setting-outcome = editing-outcome _ _
 
-    pub appending-outcome : Outcome m b s (filled m (λ new. live m ++ (new ∷ [])) (sanitised true key) (sanitised false value)) (sanitised true key ++ sanitised false value) (appending m b s key value)
+    pub appending-outcome : Outcome m b s (withField m (λ new. live m ++ (new ∷ [])) (sanitised true key) (sanitised false value)) (sanitised true key ++ sanitised false value) (appending m b s key value)
     unfolding appending
     appending-outcome = editing-outcome _ _
 

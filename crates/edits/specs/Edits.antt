@@ -68,28 +68,28 @@ abbrev pub editing : HeaderMap → List ℕ → List ℕ → HeaderMap → List 
 editing m b s n t = unless (checkedDone m b s) (refusing m b s) (changing m b s n t)
 
 -- the map with a field for the texts k and v put in; "Set, append .. mark the map edited"
-abbrev pub filled : HeaderMap → (Field → List Field) → List ℕ → List ℕ → HeaderMap
-filled m xs k v = withFields m (xs (newField (m .mark) (length k) (length v))) (m .mark + length (k ++ v)) true
+abbrev pub withField : HeaderMap → (Field → List Field) → List ℕ → List ℕ → HeaderMap
+withField m xs k v = withFields m (xs (newField (m .mark) (length k) (length v))) (m .mark + length (k ++ v)) true
 
 -- "Set replaces the first match with the new key and value, drops later ones, or appends."
 unfoldable pub setting : HeaderMap → List ℕ → List ℕ → List ℕ → List ℕ → Given Edited
 setting m b s key value =
     editing m b s
-    (filled m (λ new. replaced (named b s (sanitised true key)) new (live m)) (sanitised true key) (sanitised false value))
+    (withField m (λ new. replaced (named b s (sanitised true key)) new (live m)) (sanitised true key) (sanitised false value))
     (sanitised true key ++ sanitised false value)
 
 -- append puts the new field behind the last
 unfoldable pub appending : HeaderMap → List ℕ → List ℕ → List ℕ → List ℕ → Given Edited
 appending m b s key value =
     editing m b s
-    (filled m (λ new. live m ++ (new ∷ [])) (sanitised true key) (sanitised false value))
+    (withField m (λ new. live m ++ (new ∷ [])) (sanitised true key) (sanitised false value))
     (sanitised true key ++ sanitised false value)
 
 -- both, by the number of the field, after the first checks
 unfoldable pub putting : HeaderMap → List ℕ → List ℕ → ℕ → List ℕ → List ℕ → Given Edited
 putting m b s i key value =
     changing m b s
-    (filled m (λ new. putAt (named b s (sanitised true key)) new i (live m)) (sanitised true key) (sanitised false value))
+    (withField m (λ new. putAt (named b s (sanitised true key)) new i (live m)) (sanitised true key) (sanitised false value))
     (sanitised true key ++ sanitised false value)
 
 -- the fields that a remove leaves

@@ -9,8 +9,8 @@ use lib.ListN.{length, length-map}
 use Rattle.reader.specs.Reading.{Rules, fed, begun}
 use Rattle.readings.specs.Listening.{silent, listening}
 use Rattle.readings.proofs.HeardLaws.{hearing, over}
-use Rattle.tidy.specs.Clean.{Gives}
-use Rattle.tidy.proofs.ReadsBack.{heard-gives}
+use Rattle.rebuilds.specs.Clean.{Gives}
+use Rattle.rebuilds.proofs.ReadsBack.{heard-gives}
 use Rattle.grammar.specs.Grammar.{Header, Grammatical, isHeader, headerLines}
 use Rattle.grammar.specs.Gives.{pairOf, told}
 use Rattle.grammar.proofs.HeaderHeard.{header-heard}

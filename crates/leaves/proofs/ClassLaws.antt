@@ -6,11 +6,11 @@ use lib.Dec.{eqb}
 use lib.Bits.{bitAnd}
 use Rattle.leaves.specs.Class.{token, text, blank, digit, classOf, bit}
 
-abbrev has : ℕ → ℕ → Bool
-has x n = not (eqb (bitAnd x n) 0)
+abbrev hasBit : ℕ → ℕ → Bool
+hasBit x n = not (eqb (bitAnd x n) 0)
 
 abbrev Tells : ℕ → Bool → Bool → Bool → Bool → Type 0
-Tells x a b c d = (has x 1 ≡ a) × (has x 2 ≡ b) × (has x 4 ≡ c) × (has x 8 ≡ d)
+Tells x a b c d = (hasBit x 1 ≡ a) × (hasBit x 2 ≡ b) × (hasBit x 4 ≡ c) × (hasBit x 8 ≡ d)
 
 bits : (a b c d : Bool) → Tells (bit a 1 + bit b 2 + bit c 4 + bit d 8) a b c d
 bits true true true true = (refl, refl, refl, refl)
@@ -30,6 +30,6 @@ bits false false true false = (refl, refl, refl, refl)
 bits false false false true = (refl, refl, refl, refl)
 bits false false false false = (refl, refl, refl, refl)
 
-pub told : (x k : ℕ) → x ≡ classOf k → (has x 1 ≡ token k) × (has x 2 ≡ text k) × (has x 4 ≡ blank k) × (has x 8 ≡ digit k)
+pub told : (x k : ℕ) → x ≡ classOf k → (hasBit x 1 ≡ token k) × (hasBit x 2 ≡ text k) × (hasBit x 4 ≡ blank k) × (hasBit x 8 ≡ digit k)
 unfolding classOf
 told x k e = rw e (bits (token k) (text k) (blank k) (digit k))

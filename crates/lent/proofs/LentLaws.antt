@@ -23,7 +23,7 @@ use Rattle.maps.specs.declared.Status.the-variants.{Absent, At as Stands}
 use Rattle.maps.specs.declared.Phase.{Phase}
 use Rattle.maps.specs.declared.Phase.the-variants.{Reading, Done}
 use Rattle.maps.specs.declared.Head.{Head}
-use Rattle.lookups.specs.declared.Found.the-variants.{At, Missing}
+use Rattle.lookups.specs.declared.Found.the-variants.{Nth, Missing}
 use Rattle.lookups.specs.Lookups.{seeking}
 use Rattle.lent.specs.Table.{storeMark, placeOf, goodStored, fromOf, toOf, placeAt, fieldAt, fieldsFrom, tableOf, numbersOf, placePut, fieldPut, liveIn}
 use Rattle.lent.specs.Numbers.{flagOf, phaseNumber, statusKind, statusFrom, statusTo, headNumbers, statusOf, phaseOf, headOf, soundStatus, soundHead, soundMap}
@@ -39,7 +39,7 @@ module _ (t : List ℕ) (n i : ℕ) where
 
   -- a search among them
   module _ (p : Field → Bool) where
-    pub seek-hit : i < n → p (fieldAt t i) ≡ true → seeking p i (fieldsFrom t i (n - i)) ≡ At i
+    pub seek-hit : i < n → p (fieldAt t i) ≡ true → seeking p i (fieldsFrom t i (n - i)) ≡ Nth i
     unfolding seeking if_then_else_
     seek-hit h e = rw (from-cons h, e)
 

@@ -153,7 +153,7 @@ pub fn find<'a>(
         let p = place_at(t, i * 4);
         let key = maps::part(block, store, p);
         if names::same_name(key, name) {
-            return Found::At(i);
+            return Found::Nth(i);
         }
         i += 1;
     }

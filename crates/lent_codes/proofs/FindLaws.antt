@@ -16,8 +16,8 @@ use Rattle.maps.specs.declared.Checked.the-variants.{Fine, Refused as Bad}
 use Rattle.maps.proofs.GoodLaws.{ready-of}
 use Rattle.lookups.specs.Lookups.{named, seeking, finding, valueIn, valuePlace, handedOut}
 use Rattle.lookups.specs.declared.Slot.{Slot}
-use Rattle.lookups.specs.declared.Slot.the-variants.{At as Holds}
-use Rattle.lookups.specs.declared.Found.the-variants.{At}
+use Rattle.lookups.specs.declared.Slot.the-variants.{Holds}
+use Rattle.lookups.specs.declared.Found.the-variants.{Nth}
 use Rattle.lookups.proofs.SeekLaws.{find-fine, find-refused}
 use Rattle.lookups.proofs.HandLaws.{slot-fine}
 use Rattle.lent.specs.Table.{fieldAt, fieldsFrom, mapIn}
@@ -25,7 +25,7 @@ use Rattle.lent.proofs.LentLaws.{fields-length, fields-at, fields-take}
 
 -- a number that a search finds is that of a field
 module _ (p : Field → Bool) where
-  seek-at : (n : ℕ) (x : Field) (xs : List Field) → p x ≡ true → seeking p n (x ∷ xs) ≡ At n
+  seek-at : (n : ℕ) (x : Field) (xs : List Field) → p x ≡ true → seeking p n (x ∷ xs) ≡ Nth n
   unfolding seeking if_then_else_
   seek-at n x xs e = rw e
 
@@ -33,12 +33,12 @@ module _ (p : Field → Bool) where
   unfolding seeking if_then_else_
   seek-on n x xs e = rw e
 
-  inside : (n i : ℕ) (xs : List Field) → seeking p n xs ≡ At i → i < n + length xs
+  inside : (n i : ℕ) (xs : List Field) → seeking p n xs ≡ Nth i → i < n + length xs
   unfolding seeking
   inside n i [] e = clash (cc)
   inside n i (x ∷ xs) e = choose (p x) refl (λ h. inside (n + 1) i xs h)
     where
-      choose : (t : Bool) → p x ≡ t → (seeking p (n + 1) xs ≡ At i → i < n + 1 + length xs) → i < n + length (x ∷ xs)
+      choose : (t : Bool) → p x ≡ t → (seeking p (n + 1) xs ≡ Nth i → i < n + 1 + length xs) → i < n + length (x ∷ xs)
       choose true f ih = let z : n ≡ i = cc (seek-at n x xs f) in omega arith
       choose false f ih = let z = ih (sym (seek-on n x xs f) ∙ e) in omega (arith, z)
 
@@ -52,7 +52,7 @@ module _ (t : List ℕ) (h : Head) (b s name : List ℕ) where
         let z : h .fields - 0 ≡ h .fields = omega arith in
         rw z (ap (seeking (named b s name) 0) (sym (fields-take t 0 256 (h .fields) find-few)) ∙ sym (find-fine (mapIn t h) b s name 0 e))
 
-  module _ (i : ℕ) (f : finding (mapIn t h) b s name 0 ≡ At i) where
+  module _ (i : ℕ) (f : finding (mapIn t h) b s name 0 ≡ Nth i) where
     fine : Fine ≡ checkedDone (mapIn t h) b s
     fine = by (checkedDone (mapIn t h) b s) refl
       where

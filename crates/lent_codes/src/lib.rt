@@ -63,7 +63,7 @@ pub fn content_length<'a>(h: Head, t: &[u32], block: &'a [u8], store: &'a [u8]) 
 {
     let found = find(h, t, block, store, b"Content-Length");
     match found {
-        Found::At(i) => {
+        Found::Nth(i) => {
             let text = value(t, block, store, i);
             let n = lengths::content_length(text);
             Length::Is(n)
@@ -79,7 +79,7 @@ pub fn record_type<'a>(h: Head, t: &[u32], block: &'a [u8], store: &'a [u8]) -> 
 {
     let found = find(h, t, block, store, b"WARC-Type");
     match found {
-        Found::At(i) => {
+        Found::Nth(i) => {
             let text = value(t, block, store, i);
             let n = types::record_type(text);
             Kind::Is(n)

@@ -9,7 +9,7 @@ ghost use mathlib.Core.List.{map};
 ghost use Prim.Native.Nat.{_+_, _≤_};
 ghost use lib.ListN.{length};
 ghost use Rattle.maps.specs.Said.{pairAt, saying};
-ghost use Rattle.writes.specs.Written.{Put, pairLines, rebuilt, giving, rebuilding, writing, Is};
+ghost use Rattle.writes.specs.Written.{Put, pairLines, rebuilt, giving, rebuilding, writing, IsWritten};
 ghost use Rattle.lent.specs.Table.{fieldsFrom, mapIn};
 
 // How many octets the lines of the first n fields are.
@@ -59,7 +59,7 @@ fn put_fields<'a>(
 // Status, fields and the blank line, if the output holds them; 8 if it does not.
 fn give_map<'a>(out: &mut [u8], h: Head, t: &[u32], block: &'a [u8], store: &'a [u8]) -> Wrote
     requires { ⌜ (h .fields ≤ 256) × (length (now t) ≡ 1024) ⌝ }
-    ensures { λ r. ⌜ Is (giving (now (out .entry)) (rebuilt (saying (mapIn (now (t .entry)) h) (now (block .entry)) (now (store .entry))))) r (now (out .exit)) ⌝ }
+    ensures { λ r. ⌜ IsWritten (giving (now (out .entry)) (rebuilt (saying (mapIn (now (t .entry)) h) (now (block .entry)) (now (store .entry))))) r (now (out .exit)) ⌝ }
 {
     let n = h.fields;
     let status = h.status;
@@ -78,7 +78,7 @@ fn give_map<'a>(out: &mut [u8], h: Head, t: &[u32], block: &'a [u8], store: &'a 
 // Status, fields and the blank line, whatever the map was read from.
 pub fn rebuild<'a>(h: Head, t: &[u32], block: &'a [u8], store: &'a [u8], out: &mut [u8]) -> Wrote
     requires { ⌜ length (now t) ≡ 1024 ⌝ }
-    ensures { λ r. ⌜ Is (rebuilding (mapIn (now (t .entry)) h) (now (block .entry)) (now (store .entry)) (now (out .entry))) r (now (out .exit)) ⌝ }
+    ensures { λ r. ⌜ IsWritten (rebuilding (mapIn (now (t .entry)) h) (now (block .entry)) (now (store .entry)) (now (out .entry))) r (now (out .exit)) ⌝ }
 {
     let s = lent::check_done(h, t, block, store);
     match s {
@@ -90,7 +90,7 @@ pub fn rebuild<'a>(h: Head, t: &[u32], block: &'a [u8], store: &'a [u8], out: &m
 // The block as it was read, or the map rebuilt. An unedited map costs its checks and one copy of the block.
 pub fn write<'a>(h: Head, t: &[u32], block: &'a [u8], store: &'a [u8], out: &mut [u8]) -> Wrote
     requires { ⌜ length (now t) ≡ 1024 ⌝ }
-    ensures { λ r. ⌜ Is (writing (mapIn (now (t .entry)) h) (now (block .entry)) (now (store .entry)) (now (out .entry))) r (now (out .exit)) ⌝ }
+    ensures { λ r. ⌜ IsWritten (writing (mapIn (now (t .entry)) h) (now (block .entry)) (now (store .entry)) (now (out .entry))) r (now (out .exit)) ⌝ }
 {
     let s = lent::check_done(h, t, block, store);
     match s {

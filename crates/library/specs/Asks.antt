@@ -117,8 +117,8 @@ pub record CallsAsk : Type 0 where
   pub record-type : Free Rattle.codes.proofs.record_type.Reads.Asked
   pub code-of : Free Rattle.codes.proofs.line.code_of.Reads.Asked
   pub reason-start : Free Rattle.codes.proofs.line.reason_start.Reads.Asked
-  pub clean : Free Rattle.tests.proofs.clean.Reads.Asked
-  pub tidy : Free Rattle.tests.proofs.tidy.Reads.Asked
+  pub clean : Free Rattle.tidy.proofs.clean.Reads.Asked
+  pub tidy : Free Rattle.tidy.proofs.tidy.Reads.Asked
   pub grammatical : Free Rattle.grammar.proofs.grammatical.Reads.Asked
   pub only-value : Free Rattle.singles.proofs.only_value.Reads.Asked
   pub open-record : Free Rattle.openings.proofs.open_record.Reads.Asked

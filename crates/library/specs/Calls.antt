@@ -6,12 +6,12 @@ use Rattle.maps.specs.Maps.{Is}
 use Rattle.reader.specs.Calls.{beginning, clearing, feeding, finishing}
 use Rattle.lookups.specs.Lookups.{Handed, finding, keyPlace, sighting, statusPlace, valuePlace}
 use Rattle.edits.specs.Edits.{appending, removing, setting, statusing}
-use Rattle.writes.specs.Written.{Is as IsWritten, rebuilding, writing}
+use Rattle.writes.specs.Written.{IsWritten, rebuilding, writing}
 use Rattle.equals.specs.Equal.{comparing}
 use Rattle.codes.specs.Codes.{Phrased, coding, kindOf, lengthOf, reasoning}
 use Rattle.codes.specs.Line.{reasonStart, statusCode}
 use Rattle.codes.specs.Told.{codeTold, startTold}
-use Rattle.tests.specs.Tests.{cleaning, tidying}
+use Rattle.tidy.specs.Calls.{cleaning, tidying}
 use Rattle.grammar.specs.Walk.{grammatical}
 use Rattle.singles.specs.Single.{single}
 use Rattle.openings.specs.Opening.{opening}
@@ -76,9 +76,9 @@ pub record Calls : Type 0 where
   pub reason-start : Says Rattle.codes.proofs.line.reason_start.Reads.Learnt (λ κ a r e. r ≡ startTold (reasonStart (now (first a))))
   -- the clean and the tidy test
   -- clean(m, block, store)
-  pub clean : Says Rattle.tests.proofs.clean.Reads.Learnt (λ κ a r e. r ≡ cleaning (first a) (now (second a)) (now (third a)))
+  pub clean : Says Rattle.tidy.proofs.clean.Reads.Learnt (λ κ a r e. r ≡ cleaning (first a) (now (second a)) (now (third a)))
   -- tidy(octets, status, quirks, limit)
-  pub tidy : Says Rattle.tests.proofs.tidy.Reads.Learnt (λ κ a r e. r ≡ tidying (now (first a)) (second a) (third a) (fourth a))
+  pub tidy : Says Rattle.tidy.proofs.tidy.Reads.Learnt (λ κ a r e. r ≡ tidying (now (first a)) (second a) (third a) (fourth a))
   -- the grammar test
   -- grammatical(octets)
   pub grammatical : Says Rattle.grammar.proofs.grammatical.Reads.Learnt (λ κ a r e. r ≡ grammatical (now (first a)))

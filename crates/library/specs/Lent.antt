@@ -11,7 +11,7 @@ use Rattle.maps.specs.declared.Field.{Field}
 use Rattle.reader.specs.Calls.{beginning, clearing, feeding, finishing}
 use Rattle.lookups.specs.Lookups.{named, seeking}
 use Rattle.edits.specs.Edits.{appending, removing, setting, statusing}
-use Rattle.writes.specs.Written.{Is as IsWritten, rebuilding, writing}
+use Rattle.writes.specs.Written.{IsWritten, rebuilding, writing}
 use Rattle.codes.specs.Codes.{coding, kindOf, lengthOf}
 use Rattle.walker.specs.Walk.{ending, walking}
 use Rattle.lent.specs.Numbers.{headNumbers, headOf, longMap, soundHead, soundMap}

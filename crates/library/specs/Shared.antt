@@ -15,7 +15,7 @@ use Rattle.reader.specs.Calls.{checkedRooms}
 use Rattle.reader.specs.Heads.{headAfter}
 use Rattle.lookups.specs.Lookups.{handedOut, statusIn}
 use Rattle.edits.specs.Edits.{newField}
-use Rattle.writes.specs.Written.{Is as IsWritten, Put, giving, pairLine, statusLine, untouched}
+use Rattle.writes.specs.Written.{IsWritten, Put, giving, pairLine, statusLine, untouched}
 use Rattle.openings.specs.Opening.{opened}
 use Rattle.openings.specs.Sights.{noted, openedAt}
 use Rattle.walker.specs.Trails.{Ends, Follows, Turns, headedWalked, keptHead}

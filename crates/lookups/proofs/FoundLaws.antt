@@ -16,15 +16,15 @@ use Rattle.maps.specs.declared.Field.{Field}
 use Rattle.maps.specs.declared.HeaderMap.{HeaderMap}
 use Rattle.lookups.specs.Lookups.{named, seeking, finding, sightedIn, sighting, valueIn, valuePlace, handedOut}
 use Rattle.lookups.specs.declared.Found.{Found}
-use Rattle.lookups.specs.declared.Found.the-variants.{At, Missing, Refused}
-use Rattle.lookups.specs.declared.Sighted.the-variants.{At as Sees, Missing as Unseen, Refused as Blind}
+use Rattle.lookups.specs.declared.Found.the-variants.{Nth, Missing, Refused}
+use Rattle.lookups.specs.declared.Sighted.the-variants.{Sees, Missing as Unseen, Refused as Blind}
 use Rattle.lookups.specs.declared.Slot.{Slot}
 use Rattle.lookups.proofs.SeekLaws.{find-fine, find-refused}
 use Rattle.lookups.proofs.HandLaws.{slot-fine}
 
 -- a number that a search finds is one of those it looks at
 module _ (p : Field → Bool) where
-  seek-at : (n : ℕ) (x : Field) (xs : List Field) → p x ≡ true → seeking p n (x ∷ xs) ≡ At n
+  seek-at : (n : ℕ) (x : Field) (xs : List Field) → p x ≡ true → seeking p n (x ∷ xs) ≡ Nth n
   unfolding seeking if_then_else_
   seek-at n x xs e = rw e
 
@@ -32,12 +32,12 @@ module _ (p : Field → Bool) where
   unfolding seeking if_then_else_
   seek-on n x xs e = rw e
 
-  inside : (n i : ℕ) (xs : List Field) → seeking p n xs ≡ At i → (n ≤ i) × (i < n + length xs)
+  inside : (n i : ℕ) (xs : List Field) → seeking p n xs ≡ Nth i → (n ≤ i) × (i < n + length xs)
   unfolding seeking
   inside n i [] e = clash (cc)
   inside n i (x ∷ xs) e = choose (p x) refl (λ h. inside (n + 1) i xs h)
     where
-      choose : (t : Bool) → p x ≡ t → (seeking p (n + 1) xs ≡ At i → (n + 1 ≤ i) × (i < n + 1 + length xs)) → (n ≤ i) × (i < n + length (x ∷ xs))
+      choose : (t : Bool) → p x ≡ t → (seeking p (n + 1) xs ≡ Nth i → (n + 1 ≤ i) × (i < n + 1 + length xs)) → (n ≤ i) × (i < n + length (x ∷ xs))
       choose true f ih = let z : n ≡ i = cc (seek-at n x xs f) in (omega arith, omega arith)
       choose false f ih =
           let z = ih (sym (seek-on n x xs f) ∙ e) in
@@ -47,21 +47,21 @@ module _ (p : Field → Bool) where
 
 -- what was found and what it is
 module _ (t : List Field) where
-  in-at : (f : Found) (i : ℕ) (x : Field) → sightedIn t f ≡ Sees i x → (f ≡ At i) × (x ≡ getD t i noField)
-  in-at (At j) i x e =
+  in-at : (f : Found) (i : ℕ) (x : Field) → sightedIn t f ≡ Sees i x → (f ≡ Nth i) × (x ≡ getD t i noField)
+  in-at (Nth j) i x e =
       let z : j ≡ i = cc in
       let y : getD t j noField ≡ x = cc in
-      (ap At z, sym y ∙ ap (λ (k : ℕ). getD t k noField) z)
+      (ap Nth z, sym y ∙ ap (λ (k : ℕ). getD t k noField) z)
   in-at Missing i x e = clash (cc)
   in-at (Refused r) i x e = clash (cc)
 
   in-missing : (f : Found) → sightedIn t f ≡ Unseen → f ≡ Missing
-  in-missing (At j) e = clash (cc)
+  in-missing (Nth j) e = clash (cc)
   in-missing Missing e = refl
   in-missing (Refused r) e = clash (cc)
 
   in-refused : (f : Found) (r : Refusal) → sightedIn t f ≡ Blind r → f ≡ Refused r
-  in-refused (At j) r e = clash (cc)
+  in-refused (Nth j) r e = clash (cc)
   in-refused Missing r e = clash (cc)
   in-refused (Refused q) r e = let z : q ≡ r = cc in ap Refused z
 
@@ -83,7 +83,7 @@ module _ (m : HeaderMap) (b s name : List ℕ) (from : ℕ) where
   sight-blind x e = in-refused (m .table) (finding m b s name from) x e
 
   module _ (i : ℕ) where
-    module _ (f : finding m b s name from ≡ At i) where
+    module _ (f : finding m b s name from ≡ Nth i) where
       fine : Fine ≡ checkedDone m b s
       fine = by (checkedDone m b s) refl
         where
@@ -99,7 +99,7 @@ module _ (m : HeaderMap) (b s name : List ℕ) (from : ℕ) where
           omega (arith, u, v, length-drop from (live m), length-take (m .fields) (m .table))
 
     module _ (x : Field) (e : sighting m b s name from ≡ Sees i x) where
-      pub sight-at : finding m b s name from ≡ At i
+      pub sight-at : finding m b s name from ≡ Nth i
       unfolding sighting
       sight-at = in-at (m .table) (finding m b s name from) i x e .0
 

@@ -25,7 +25,7 @@ use Rattle.maps.specs.Said.{statusAt, textOf, saying}
 use Rattle.maps.proofs.FitLaws.{fit-get, fits-within}
 use Rattle.maps.proofs.PartLaws.{within-begins}
 use Rattle.maps.proofs.SaidLaws.{said-is}
-use Rattle.lookups.specs.declared.Slot.the-variants.{Nothing, At}
+use Rattle.lookups.specs.declared.Slot.the-variants.{Nothing, Holds}
 use Rattle.lookups.specs.Lookups.{slotOf, shownStatus, statusIn, statusPlace, handedOut, Handed}
 
 -- one lemma for each of the two kinds of answer
@@ -63,7 +63,7 @@ module _ (m : HeaderMap) (b s : List ℕ) where
   status-within p h = status-by (checkedDone m b s) p refl h
 
   module _ (i : ℕ) where
-    pub slot-fine : Fine ≡ checkedDone m b s → i < m .fields → slotOf m b s i ≡ At (getD (m .table) i noField)
+    pub slot-fine : Fine ≡ checkedDone m b s → i < m .fields → slotOf m b s i ≡ Holds (getD (m .table) i noField)
     unfolding slotOf
     slot-fine e h = goes-on _ _ _ e ∙ if-true _ _ (lt-ltb _ _ h)
 
@@ -75,23 +75,23 @@ module _ (m : HeaderMap) (b s : List ℕ) where
     unfolding slotOf
     slot-refused x e = refused-by _ _ _ x e
 
-    fit-slot : Fine ≡ checkedDone m b s → (f : Field) → slotOf m b s i ≡ At f → Fit (m .count) (m .mark) f
+    fit-slot : Fine ≡ checkedDone m b s → (f : Field) → slotOf m b s i ≡ Holds f → Fit (m .count) (m .mark) f
     fit-slot e f h = by (ltb i (m .fields)) refl
       where
         by : (t : Bool) → ltb i (m .fields) ≡ t → Fit (m .count) (m .mark) f
         by true u =
             let l : i < m .fields = ltb-true _ _ u in
-            let z : At (getD (m .table) i noField) ≡ At f = sym (slot-fine e l) ∙ h in
+            let z : Holds (getD (m .table) i noField) ≡ Holds f = sym (slot-fine e l) ∙ h in
             let w : getD (m .table) i noField ≡ f = cc in
             (rw (getD-take (m .fields) (m .table) i noField l, w) at (fit-get (ready-of _ m b s e .fields) i))
         by false u = clash (cc (slot-wrong e (ltb-false _ _ u)))
 
-    slot-by : (c : Checked) (f : Field) → c ≡ checkedDone m b s → slotOf m b s i ≡ At f → Within b s (f .key) × Within b s (f .value)
+    slot-by : (c : Checked) (f : Field) → c ≡ checkedDone m b s → slotOf m b s i ≡ Holds f → Within b s (f .key) × Within b s (f .value)
     slot-by Fine f e h = let w = fit-slot e f h in (within-of e (w .key), within-of e (w .value))
     slot-by (Refused x) f e h = clash (cc (slot-refused x e))
 
     -- a field that is handed out has its places in their loans
-    pub slot-within : (f : Field) → slotOf m b s i ≡ At f → Within b s (f .key) × Within b s (f .value)
+    pub slot-within : (f : Field) → slotOf m b s i ≡ Holds f → Within b s (f .key) × Within b s (f .value)
     slot-within f h = slot-by (checkedDone m b s) f refl h
 
 -- status hands out that of the map, an empty one for none

@@ -15,7 +15,7 @@ use Rattle.maps.specs.declared.Checked.the-variants.{Fine, Refused as No}
 use Rattle.maps.specs.declared.HeaderMap.{HeaderMap}
 use Rattle.maps.proofs.GoodLaws.{goes-on, refused-by}
 use Rattle.leaves.specs.declared.refusals.Refusal.{Refusal}
-use Rattle.lookups.specs.declared.Found.the-variants.{At, Missing, Refused}
+use Rattle.lookups.specs.declared.Found.the-variants.{Nth, Missing, Refused}
 use Rattle.lookups.specs.Lookups.{named, seeking, finding}
 
 module _ (t : List Field) (n i : ℕ) where
@@ -31,7 +31,7 @@ module _ (t : List Field) (n i : ℕ) where
       drop-of-length-le (take n t) k
 
   module _ (p : Field → Bool) where
-    pub seek-hit : n ≤ length t → i < n → p (getD t i noField) ≡ true → seeking p i (drop i (take n t)) ≡ At i
+    pub seek-hit : n ≤ length t → i < n → p (getD t i noField) ≡ true → seeking p i (drop i (take n t)) ≡ Nth i
     unfolding seeking if_then_else_
     seek-hit w h e = rw (live-cons w h, e)
 

@@ -16,11 +16,11 @@ use Rattle.maps.specs.declared.Status.{Status}
 use Rattle.maps.specs.declared.Status.the-variants.{Absent, At as Stands}
 use Rattle.maps.specs.declared.HeaderMap.{HeaderMap}
 use Rattle.lookups.specs.declared.Found.{Found}
-use Rattle.lookups.specs.declared.Found.the-variants.{At, Missing, Refused}
+use Rattle.lookups.specs.declared.Found.the-variants.{Nth, Missing, Refused}
 use Rattle.lookups.specs.declared.Sighted.{Sighted}
-use Rattle.lookups.specs.declared.Sighted.the-variants.{At as Sees, Missing as Unseen, Refused as Blind}
+use Rattle.lookups.specs.declared.Sighted.the-variants.{Sees, Missing as Unseen, Refused as Blind}
 use Rattle.lookups.specs.declared.Slot.{Slot}
-use Rattle.lookups.specs.declared.Slot.the-variants.{Nothing, At as Holds}
+use Rattle.lookups.specs.declared.Slot.the-variants.{Nothing, Holds}
 
 -- "Names compare without ASCII case." "Lookup keys aren't sanitised."
 unfoldable pub named : List ℕ → List ℕ → List ℕ → Field → Bool
@@ -29,7 +29,7 @@ named b s name x = sameName (at b s (x .key)) name
 -- the number of the first that passes, the first of them being number n
 unfoldable pub seeking {ℓ} : {A : Type ℓ} → (A → Bool) → ℕ → List A → Found
 seeking p n [] = Missing
-seeking p n (x ∷ xs) = if p x then At n else seeking p (n + 1) xs
+seeking p n (x ∷ xs) = if p x then Nth n else seeking p (n + 1) xs
 
 -- "A lookup from a given field number on gives missing or a field number."
 unfoldable pub finding : HeaderMap → List ℕ → List ℕ → List ℕ → ℕ → Found
@@ -37,7 +37,7 @@ finding m b s name from = unless (checkedDone m b s) Refused (seeking (named b s
 
 -- a number that was found, with its field
 abbrev pub sightedIn : List Field → Found → Sighted
-sightedIn t (At i) = Sees i (getD t i noField)
+sightedIn t (Nth i) = Sees i (getD t i noField)
 sightedIn t Missing = Unseen
 sightedIn t (Refused x) = Blind x
 

@@ -12,14 +12,14 @@ ghost use lib.ListN.{take, drop};
 ghost use Rattle.lookups.specs.Lookups.{named, seeking, finding, sightedIn, sighting, slotOf, shownStatus, valuePlace, keyPlace, statusPlace, Handed};
 
 pub enum Found {
-    At(usize),
+    Nth(usize),
     Missing,
     Refused(Refusal),
 }
 
 // A field that was found, with its number.
 pub enum Sighted {
-    At(usize, Field),
+    Sees(usize, Field),
     Missing,
     Refused(Refusal),
 }
@@ -42,7 +42,7 @@ fn seek<'a>(
         let p = f.key;
         let key = maps::part(block, store, p);
         if names::same_name(key, name) {
-            return Sighted::At(i, f);
+            return Sighted::Sees(i, f);
         }
         i += 1;
     }
@@ -76,7 +76,7 @@ pub fn find<'a>(m: HeaderMap, block: &'a [u8], store: &'a [u8], name: &[u8], fro
 {
     let s = sight(m, block, store, name, from);
     match s {
-        Sighted::At(i, f) => Found::At(i),
+        Sighted::Sees(i, f) => Found::Nth(i),
         Sighted::Missing => Found::Missing,
         Sighted::Refused(x) => Found::Refused(x),
     }
@@ -85,7 +85,7 @@ pub fn find<'a>(m: HeaderMap, block: &'a [u8], store: &'a [u8], name: &[u8], fro
 // A field to hand a part of, or none.
 pub enum Slot {
     Nothing,
-    At(Field),
+    Holds(Field),
 }
 
 // The field i: none for a wrong number or a refusal.
@@ -98,7 +98,7 @@ fn slot_at(m: HeaderMap, block: &[u8], store: &[u8], i: usize) -> Slot
             let n = m.fields;
             if i < n {
                 let f = m.table[i];
-                return Slot::At(f);
+                return Slot::Holds(f);
             }
             Slot::Nothing
         }
@@ -113,7 +113,7 @@ pub fn value<'a>(m: HeaderMap, block: &'a [u8], store: &'a [u8], i: usize) -> &'
     let s = slot_at(m, block, store, i);
     match s {
         Slot::Nothing => &block[0..0],
-        Slot::At(f) => {
+        Slot::Holds(f) => {
             let p = f.value;
             maps::part(block, store, p)
         }
@@ -127,7 +127,7 @@ pub fn key<'a>(m: HeaderMap, block: &'a [u8], store: &'a [u8], i: usize) -> &'a 
     let s = slot_at(m, block, store, i);
     match s {
         Slot::Nothing => &block[0..0],
-        Slot::At(f) => {
+        Slot::Holds(f) => {
             let p = f.key;
             maps::part(block, store, p)
         }

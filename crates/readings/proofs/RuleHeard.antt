@@ -27,7 +27,7 @@ use Rattle.maps.proofs.SaidLaws.{pair-same}
 use Rattle.folds.specs.Rule.{Ruling, plain, trimmedAt, continues, grown, regrown, folded, split, rule4}
 use Rattle.folds.specs.declared.Change.{Change}
 use Rattle.folds.specs.declared.Change.the-variants.{Nothing, Status as Headed, Put, Refused as Stops}
-use Rattle.reader.specs.Reading.{Rules, Found, Reading, changed, lined, ruled}
+use Rattle.reader.specs.Reading.{Rules, Gathered, Reading, changed, lined, ruled}
 use Rattle.reader.specs.declared.Answer.{Answer}
 use Rattle.maps.proofs.FitLaws.{all-take, all-get}
 use Rattle.readings.specs.Heard.{Hearing, continued, fieldsIn, heard}
@@ -36,7 +36,7 @@ use Rattle.readings.proofs.Kept.{Sound}
 use Rattle.readings.proofs.HeardLaws.{continued-last}
 
 -- what is found says, of the block b
-abbrev pub tells : List ℕ → Found → Hearing
+abbrev pub tells : List ℕ → Gathered → Hearing
 tells b f = record { awaits = f .awaits; said = record { status = statusAt b (f .store) (f .status); pairs = map (pairAt b (f .store)) (f .fields) } }
 
 none-left : {A : Type 0} (xs : List A) → length xs ≡ 0 → xs ≡ []
@@ -64,7 +64,7 @@ module _ (b s new : List ℕ) where
   status-later {t} h = ap (λ (c : List ℕ). statusAt c (s ++ new) t) (sym (append-nil b)) ∙ status-front b s [] new h
 
 -- the line of the block b that begins at n, what the lines before it gave, and what is heard of it
-module _ (b : List ℕ) (n : ℕ) (f : Found) where
+module _ (b : List ℕ) (n : ℕ) (f : Gathered) where
   abbrev line : List ℕ
   line = drop n b
 

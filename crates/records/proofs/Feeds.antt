@@ -16,7 +16,7 @@ use Rattle.maps.specs.declared.HeaderMap.{HeaderMap}
 use Rattle.maps.specs.declared.Checked.the-variants.{Fine}
 use Rattle.maps.proofs.GoodBy.{good-facts, good-empty, rooms-by}
 use Rattle.maps.proofs.GoodLaws.{ready-of, checked-fine}
-use Rattle.reader.specs.Reading.{Rules, Found, Reading, goes, step, fed}
+use Rattle.reader.specs.Reading.{Rules, Gathered, Reading, goes, step, fed}
 use Rattle.reader.specs.Calls.{rulesOf, readingOf, mapOf, gives, feeding}
 use Rattle.reader.specs.declared.Answer.{Answer}
 use Rattle.reader.specs.declared.Answer.the-variants.{More, Blank, Input, Refused}
@@ -147,9 +147,9 @@ module _ (m : HeaderMap) (b s : List ℕ) (fine : Fine ≡ checkedReading m b s)
             let h = untaken f x e in
             subst (Emptied x) (sym (fed-goes m b s few fine ∙ ap (gave (Q few)) f))
             (record {
-              map = ap (λ (d : Found). empty (lay (m .table) (d .fields)) (m .limit) (m .room) false false Done) (sym (h .found));
+              map = ap (λ (d : Gathered). empty (lay (m .table) (d .fields)) (m .limit) (m .room) false false Done) (sym (h .found));
               block = ap (lay b) (sym (h .block));
-              store = ap (λ (d : Found). lay s (d .store)) (sym (h .found));
+              store = ap (λ (d : Gathered). lay s (d .store)) (sym (h .found));
             })
         choose Blank f = whole (ended (ap goes f))
         choose Input f = whole (ended (ap goes f))

@@ -171,8 +171,8 @@ module _ (w : Walker) (m : HeaderMap) (start : ℕ) (b s p : List ℕ) (fine : F
 
 -- a header that goes on, and one that begins
 module _ (w : Walker) (b s : List ℕ) (x : ℕ) (xs : List ℕ) (g : Given Walked) (near : w .position < furthest) where
-  pub goes-on : w .stage ≡ Header → Reads w (w .map) b s (x ∷ xs) g → AfterWalk w b s (x ∷ xs) g
-  goes-on t r = in-header w b s x xs g (r .block) (r .store) (ap heading t) (r .isGood) (r .numbers) (λ h. absurd (omega arith)) (λ h. apart t h) (λ _. r .header) (λ h. apart t h)
+  pub reads-on : w .stage ≡ Header → Reads w (w .map) b s (x ∷ xs) g → AfterWalk w b s (x ∷ xs) g
+  reads-on t r = in-header w b s x xs g (r .block) (r .store) (ap heading t) (r .isGood) (r .numbers) (λ h. absurd (omega arith)) (λ h. apart t h) (λ _. r .header) (λ h. apart t h)
 
   pub begins : w .stage ≡ Between → Reads w (fresh (w .map)) b s (x ∷ xs) g → AfterWalk w b s (x ∷ xs) g
   begins t r = in-header w b s x xs g (r .block) (r .store) (ap heading t) (r .isGood) (r .numbers) (λ h. absurd (omega arith)) (λ _. near) (λ h. apart h t) (λ _. r .header)

@@ -27,7 +27,7 @@ use Rattle.records.proofs.Feeds.{emptied-good}
 use Rattle.records.proofs.Reach.{allowed-none}
 use Rattle.records.proofs.Able.{Able, Standing, able, refused, ended, stopped, standing, fine-of, fresh-fine, header-fine}
 use Rattle.records.proofs.Ways.{apart, quiet, far-outside, far-inside, trailer-after}
-use Rattle.records.proofs.HeaderWays.{read-after, goes-on, begins}
+use Rattle.records.proofs.HeaderWays.{read-after, reads-on, begins}
 
 -- the first checks give 2, 3 or 7
 low-checks : (w : Walker) (b s : List ℕ) (x : Refusal) → Bad x ≡ checkedWalker w (length b) (length s) → (number x < 8) × (3 < number x → 6 < number x)
@@ -73,7 +73,7 @@ module _ (w : Walker) (b s : List ℕ) where
     header-after : w .stage ≡ Header → Able w b s → R p (headerWalked w b s p)
     header-after t a =
         by-header (R p) w b s p (λ z. far-inside w b s x xs (far z) t (header-fine w b s t a))
-        (λ z. goes-on w b s x xs _ (near z) t (read-after w (w .map) (w .start) b s p (header-fine w b s t a)))
+        (λ z. reads-on w b s x xs _ (near z) t (read-after w (w .map) (w .start) b s p (header-fine w b s t a)))
 
     rest-after : w .stage ≡ Body → R p (keeps b s (restWalked w p))
     rest-after t =

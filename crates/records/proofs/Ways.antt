@@ -169,8 +169,8 @@ module _ (w : Walker) (b s p : List ℕ) (past : ℕ) (low : past < 4) (outside 
   no-between : w .stage ≡ Between → ⊥
   no-between e = false≢true (sym outside ∙ ap heading e)
 
-  goes-on : (t : Stage) → resting t ≡ Walks → (0 < length p → furthest ≤ w .position → ⊥) → T (onward w t same More)
-  goes-on t walks near =
+  walks-on : (t : Stage) → resting t ≡ Walks → (0 < length p → furthest ≤ w .position → ⊥) → T (onward w t same More)
+  walks-on t walks near =
       quiet w b s p _ refl (omega (arith, within, k-is)) (λ _. near) (λ j h i e. omega arith) (λ _. omega arith) walks
 
   -- a number that stops the walker in the trailer
@@ -212,5 +212,5 @@ module _ (w : Walker) (b s p : List ℕ) (past : ℕ) (low : past < 4) (outside 
 
   pub trailer-after : T (trailerWalked w past p)
   trailer-after =
-      by-trailer T w past p (λ d. goes-on Between refl (λ h i. omega (arith, within, k-is, d, low))) differs (λ d i j. too-far i j)
-      (λ d i j. goes-on (trailerStage (past + same)) (outside-walks (trailerStage (past + same)) (trailer-outside (past + same))) (λ h f. omega (arith, k-is)))
+      by-trailer T w past p (λ d. walks-on Between refl (λ h i. omega (arith, within, k-is, d, low))) differs (λ d i j. too-far i j)
+      (λ d i j. walks-on (trailerStage (past + same)) (outside-walks (trailerStage (past + same)) (trailer-outside (past + same))) (λ h f. omega (arith, k-is)))

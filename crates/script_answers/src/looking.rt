@@ -13,7 +13,7 @@ pub fn find<'a>(
 ) -> usize {
     let found = lookups::find(m, block, store, name, from);
     match found {
-        Found::At(i) => prints::number(said, at, i),
+        Found::Nth(i) => prints::number(said, at, i),
         Found::Missing => prints::text(said, at, b"none"),
         Found::Refused(r) => prints::refusal(said, at, r),
     }

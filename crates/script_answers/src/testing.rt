@@ -1,6 +1,6 @@
 // The words `C`, `T` and `G`: clean, tidy, grammatical.
 use maps::HeaderMap;
-use tests::Test;
+use tidy::Test;
 
 fn tested(said: &mut [u8], at: usize, t: Test) -> usize {
     match t {
@@ -17,7 +17,7 @@ pub fn clean<'a>(
     block: &'a [u8],
     store: &'a [u8],
 ) -> usize {
-    tested(said, at, tests::clean(m, block, store))
+    tested(said, at, tidy::clean(m, block, store))
 }
 
 pub fn tidy(
@@ -28,7 +28,7 @@ pub fn tidy(
     quirks: bool,
     limit: usize,
 ) -> usize {
-    tested(said, at, tests::tidy(octets, status, quirks, limit))
+    tested(said, at, tidy::tidy(octets, status, quirks, limit))
 }
 
 pub fn grammatical(said: &mut [u8], at: usize, octets: &[u8]) -> usize {

@@ -21,7 +21,7 @@ use Rattle.maps.proofs.GoodLaws.{ready-of, goes-on, refused-by}
 use Rattle.maps.specs.Said.{pairAt, saying}
 use Rattle.lookups.specs.Lookups.{named, seeking, finding, valueIn, valuePlace, handedOut}
 use Rattle.lookups.specs.declared.Found.{Found}
-use Rattle.lookups.specs.declared.Found.the-variants.{At, Missing, Refused}
+use Rattle.lookups.specs.declared.Found.the-variants.{Nth, Missing, Refused}
 use Rattle.lookups.proofs.SeekLaws.{find-fine, find-refused}
 use Rattle.lookups.proofs.HandLaws.{slot-fine}
 use Rattle.singles.specs.Single.{valuesOf, onlyOf, onlyValue, single}
@@ -46,7 +46,7 @@ module _ (b s name : List ℕ) where
     unfolding valuesOf named if_then_else_
     values-skip e = rw e
 
-    seek-at : (n : ℕ) → named b s name x ≡ true → seeking (named b s name) n (x ∷ xs) ≡ At n
+    seek-at : (n : ℕ) → named b s name x ≡ true → seeking (named b s name) n (x ∷ xs) ≡ Nth n
     unfolding seeking if_then_else_
     seek-at n e = rw e
 
@@ -70,11 +70,11 @@ module _ (b s name : List ℕ) where
       choose true f ih = clash (cc (seek-at x xs n f))
       choose false f ih = values-skip x xs f ∙ ih (sym (seek-on x xs n f) ∙ e)
 
-  found-hit : (n i : ℕ) (xs : List Field) → seeking (named b s name) n xs ≡ At i → Hit b s name n i xs
+  found-hit : (n i : ℕ) (xs : List Field) → seeking (named b s name) n xs ≡ Nth i → Hit b s name n i xs
   found-hit n i [] e = clash (cc (seek-none n))
   found-hit n i (x ∷ xs) e = choose (named b s name x) refl (λ h. found-hit (n + 1) i xs h)
     where
-      choose : (t : Bool) → named b s name x ≡ t → (seeking (named b s name) (n + 1) xs ≡ At i → Hit b s name (n + 1) i xs) → Hit b s name n i (x ∷ xs)
+      choose : (t : Bool) → named b s name x ≡ t → (seeking (named b s name) (n + 1) xs ≡ Nth i → Hit b s name (n + 1) i xs) → Hit b s name n i (x ∷ xs)
       choose true f ih =
           let z : n ≡ i = cc (seek-at x xs n f) in
           record { index = 0; is = omega arith; inside = omega arith; values = values-hit x xs f }
@@ -100,7 +100,7 @@ module _ (b s name : List ℕ) where
       (rw z at (h .inside), rw z at (h .values))
 
 module _ (m : HeaderMap) (b s name : List ℕ) (e : Fine ≡ checkedDone m b s) where
-  first-hit : (i : ℕ) → finding m b s name 0 ≡ At i
+  first-hit : (i : ℕ) → finding m b s name 0 ≡ Nth i
       → (i < length (live m)) × (worth b s name (live m) ≡ at b s (getD (live m) i noField .value) ∷ worth b s name (drop (suc i) (live m)))
   first-hit i f = hit-values b s name 0 i i (live m) (found-hit b s name 0 i (live m) (sym (find-fine m b s name 0 e) ∙ f)) (omega arith)
 
@@ -110,7 +110,7 @@ module _ (m : HeaderMap) (b s name : List ℕ) (e : Fine ≡ checkedDone m b s) 
   within : (i : ℕ) → i < length (live m) → i < m .fields
   within i h = omega (arith, h, length-take (m .fields) (m .table))
 
-  small : (i : ℕ) → finding m b s name 0 ≡ At i → i < 256
+  small : (i : ℕ) → finding m b s name 0 ≡ Nth i → i < 256
   small i f = let h = first-hit i f .0 in let k = few in omega arith
 
   pub never-refused : {A : Type 0} (from : ℕ) (x : Refusal) → finding m b s name from ≡ Refused x → A
@@ -135,7 +135,7 @@ module _ (m : HeaderMap) (b s name : List ℕ) (e : Fine ≡ checkedDone m b s) 
   pub values-missing : finding m b s name 0 ≡ Missing → valuesOf name (saying m b s .pairs) ≡ []
   values-missing f = said-values [] (values-none f)
 
-  pub values-found : (i : ℕ) → finding m b s name 0 ≡ At i
+  pub values-found : (i : ℕ) → finding m b s name 0 ≡ Nth i
       → valuesOf name (saying m b s .pairs) ≡ handedOut b s (valuePlace m b s i) ∷ worth b s name (drop (suc i) (live m))
   values-found i f =
       let h = first-hit i f in
@@ -144,15 +144,15 @@ module _ (m : HeaderMap) (b s name : List ℕ) (e : Fine ≡ checkedDone m b s) 
   only-missing : finding m b s name 0 ≡ Missing → [] ≡ onlyValue name (saying m b s)
   only-missing f = sym (ap onlyOf (values-missing f))
 
-  only-found : (i : ℕ) → finding m b s name 0 ≡ At i → finding m b s name (i + 1) ≡ Missing
+  only-found : (i : ℕ) → finding m b s name 0 ≡ Nth i → finding m b s name (i + 1) ≡ Missing
       → (v : List ℕ) → v ≡ handedOut b s (valuePlace m b s i) → v ≡ onlyValue name (saying m b s)
   only-found i f g v h =
       let r : worth b s name (drop (suc i) (live m)) ≡ [] = missing-none b s name (suc i) (drop (suc i) (live m)) (rest-of i Missing g) in
       h ∙ sym (ap onlyOf (values-found i f ∙ ap (λ (vs : List (List ℕ)). handedOut b s (valuePlace m b s i) ∷ vs) r))
 
-  only-again : (i j : ℕ) → finding m b s name 0 ≡ At i → finding m b s name (i + 1) ≡ At j → [] ≡ onlyValue name (saying m b s)
+  only-again : (i j : ℕ) → finding m b s name 0 ≡ Nth i → finding m b s name (i + 1) ≡ Nth j → [] ≡ onlyValue name (saying m b s)
   only-again i j f g =
-      let h = found-hit b s name (suc i) j (drop (suc i) (live m)) (rest-of i (At j) g) in
+      let h = found-hit b s name (suc i) j (drop (suc i) (live m)) (rest-of i (Nth j) g) in
       sym (ap onlyOf (values-found i f ∙ ap (λ (vs : List (List ℕ)). handedOut b s (valuePlace m b s i) ∷ vs) (h .values)))
 
 module _ (m : HeaderMap) (b s name : List ℕ) where
@@ -172,23 +172,23 @@ module _ (m : HeaderMap) (b s name : List ℕ) where
       by Fine e = e
       by (Bad x) e = absurd (never x (sym g ∙ find-refused m b s name from x e))
 
-  found-fine : (from i : ℕ) → finding m b s name from ≡ At i → Fine ≡ checkedDone m b s
-  found-fine from i f = fine-by from (At i) f (λ x e. clash (cc))
+  found-fine : (from i : ℕ) → finding m b s name from ≡ Nth i → Fine ≡ checkedDone m b s
+  found-fine from i f = fine-by from (Nth i) f (λ x e. clash (cc))
 
   missing-fine : (from : ℕ) → finding m b s name from ≡ Missing → Fine ≡ checkedDone m b s
   missing-fine from f = fine-by from Missing f (λ x e. clash (cc))
 
-  pub found-small : (i : ℕ) → finding m b s name 0 ≡ At i → i < 256
+  pub found-small : (i : ℕ) → finding m b s name 0 ≡ Nth i → i < 256
   found-small i f = small m b s name (found-fine 0 i f) i f
 
   pub none-missing : finding m b s name 0 ≡ Missing → [] ≡ single m b s name
   none-missing f = let e = missing-fine 0 f in only-missing m b s name e f ∙ sym (single-is e)
 
-  pub one-found : (i : ℕ) → finding m b s name 0 ≡ At i → finding m b s name (i + 1) ≡ Missing
+  pub one-found : (i : ℕ) → finding m b s name 0 ≡ Nth i → finding m b s name (i + 1) ≡ Missing
       → (v : List ℕ) → v ≡ handedOut b s (valuePlace m b s i) → v ≡ single m b s name
   one-found i f g v h = let e = found-fine 0 i f in only-found m b s name e i f g v h ∙ sym (single-is e)
 
-  pub none-again : (i j : ℕ) → finding m b s name 0 ≡ At i → finding m b s name (i + 1) ≡ At j → [] ≡ single m b s name
+  pub none-again : (i j : ℕ) → finding m b s name 0 ≡ Nth i → finding m b s name (i + 1) ≡ Nth j → [] ≡ single m b s name
   none-again i j f g = let e = found-fine 0 i f in only-again m b s name e i j f g ∙ sym (single-is e)
 
   pub none-refused : (from : ℕ) (x : Refusal) → finding m b s name from ≡ Refused x → [] ≡ single m b s name

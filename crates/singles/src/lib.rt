@@ -11,10 +11,10 @@ pub fn only_value<'a>(m: HeaderMap, block: &'a [u8], store: &'a [u8], name: &[u8
 {
     let first = lookups::sight(m, block, store, name, 0);
     match first {
-        Sighted::At(i, f) => {
+        Sighted::Sees(i, f) => {
             let second = lookups::find(m, block, store, name, i + 1);
             match second {
-                Found::At(j) => &block[0..0],
+                Found::Nth(j) => &block[0..0],
                 Found::Missing => {
                     let p = f.value;
                     maps::part(block, store, p)

@@ -73,7 +73,7 @@ fn length_found<'a>(found: Found, m: HeaderMap, block: &'a [u8], store: &'a [u8]
     ensures { λ r. ⌜ r < 1024 ⌝ }
 {
     match found {
-        Found::At(i) => {
+        Found::Nth(i) => {
             let v = lookups::value(m, block, store, i);
             v.len() % 1024
         }

@@ -6,12 +6,12 @@ use Rattle.leaves.specs.Octets.{octets}
 use Rattle.leaves.specs.Name.{sameName}
 
 -- a type's name and its code
-pub record Kind : Type 0 where
+pub record TypeName : Type 0 where
   pub name : List ℕ
   pub code : ℕ
 
 -- "warcinfo 2, response 4, resource 8, request 16, metadata 32, revisit 64, conversion 128, continuation 256"
-unfoldable pub kinds : List Kind
+unfoldable pub kinds : List TypeName
 kinds =
     record { name = octets "warcinfo"; code = 2 } ∷
     record { name = octets "response"; code = 4 } ∷
@@ -22,7 +22,7 @@ kinds =
     record { name = octets "conversion"; code = 128 } ∷
     record { name = octets "continuation"; code = 256 } ∷ []
 
-unfoldable pub codeAmong : List Kind → List ℕ → ℕ
+unfoldable pub codeAmong : List TypeName → List ℕ → ℕ
 codeAmong [] s = 32768
 codeAmong (k ∷ ks) s = cond (sameName s (k .name)) (k .code) (codeAmong ks s)
 

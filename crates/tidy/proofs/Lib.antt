@@ -1,7 +1,6 @@
-pub mod CleanTexts
-pub mod PairsHeard
-pub mod ReadsBack
-pub mod TidyBlocks
-pub mod ScanLines
-pub mod ScanPairs
-pub mod ScanBlocks
+pub mod TextLaws
+pub mod CleanLaws
+pub mod TwoLaws
+pub mod PassLaws
+pub mod ScanLaws
+pub mod BehindLaws

@@ -1,2 +1,4 @@
-pub mod Clean
-pub mod Scan
+pub mod Keys
+pub mod Pass
+pub mod Calls
+pub mod Answers

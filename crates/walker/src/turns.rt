@@ -345,7 +345,7 @@ pub fn turn(t: Trail, c: Checked, piece: &[u8]) -> Turn
 }
 
 // A header that goes on, the reader having had k of a piece of n octets.
-fn goes_on(t: Trail, taken: usize, k: usize, n: usize) -> Trailed
+fn carries_on(t: Trail, taken: usize, k: usize, n: usize) -> Trailed
     ensures { λ r. ⌜ Follows t r (λ w. headerMore (w .map) (w .position) (w .rest) (w .start) taken k n) ⌝ }
 {
     if k < n {
@@ -388,7 +388,7 @@ pub fn behind_header(h: Headed, t: Trail, taken: usize, k: usize, n: usize) -> T
     ensures { λ r. ⌜ Follows t r (λ w. headedWalked h (w .map) (w .position) (w .rest) (w .start) taken k n) ⌝ }
 {
     match h {
-        Headed::Goes => goes_on(t, taken, k, n),
+        Headed::Goes => carries_on(t, taken, k, n),
         Headed::Opens(o) => opens(t, taken, o),
         Headed::Input => at_stage(t, Stage::Header, taken, Step::More, Kept::Same),
         Headed::Shut(e) => at_stage(t, Stage::Stopped(e), taken, Step::Refused(e), Kept::Same),

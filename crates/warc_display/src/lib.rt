@@ -4,7 +4,7 @@ use maps::HeaderMap;
 use maps::Place;
 use maps::Status;
 use reader::Answer;
-use tests::Test;
+use tidy::Test;
 use warc_blocks::Head;
 
 fn bounds(said: &mut [u8], at: usize, from: u32, to: u32) -> usize {
@@ -132,7 +132,7 @@ fn test(said: &mut [u8], at: usize, x: Test) -> usize {
 // What the tests of octets say.
 fn octet_tests(said: &mut [u8], at: usize, octets: &[u8], status: bool, quirks: bool) -> usize {
     let a = prints::text(said, at, b"tidy: ");
-    let tidy = tests::tidy(octets, status, quirks, maps::DEFAULT_LIMIT);
+    let tidy = tidy::tidy(octets, status, quirks, maps::DEFAULT_LIMIT);
     let b = test(said, a, tidy);
     let c = prints::text(said, b, b"grammatical: ");
     yes(said, c, grammar::grammatical(octets))
@@ -145,7 +145,7 @@ fn map<'a>(said: &mut [u8], at: usize, m: HeaderMap, block: &'a [u8], store: &'a
     let a = status(said, at, block, store, s);
     let b = fields(said, a, block, store, t, m.fields);
     let c = prints::text(said, b, b"clean: ");
-    let clean = tests::clean(m, block, store);
+    let clean = tidy::clean(m, block, store);
     test(said, c, clean)
 }
 

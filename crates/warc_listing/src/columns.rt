@@ -27,7 +27,7 @@ fn value<'a>(
 ) -> usize {
     let found = lookups::find(m, block, store, name, 0);
     match found {
-        Found::At(i) => warc_phrases::column(said, at, lookups::value(m, block, store, i)),
+        Found::Nth(i) => warc_phrases::column(said, at, lookups::value(m, block, store, i)),
         Found::Missing => prints::character(said, at, b'-'),
         Found::Refused(_) => prints::character(said, at, b'-'),
     }

@@ -9,7 +9,7 @@ use Rattle.maps.specs.Good.{checkedDone, unless}
 use Rattle.maps.specs.declared.Checked.{Checked}
 use Rattle.maps.specs.declared.Checked.the-variants.{Fine, Refused as Bad}
 use Rattle.maps.specs.declared.HeaderMap.{HeaderMap}
-use Rattle.writes.specs.Written.{Given, refuses, giving, writing, rebuilding}
+use Rattle.writes.specs.Written.{Writing, refuses, giving, writing, rebuilding}
 use Rattle.writes.specs.declared.Wrote.{Wrote}
 use Rattle.writes.specs.declared.Wrote.the-variants.{Count, Refused}
 
@@ -19,7 +19,7 @@ counts (Refused x) = false
 
 module _ (d : List ℕ) (x : Refusal) where
   -- what a call that was refused by x gives leaves the output
-  abbrev Left : Given → Type 0
+  abbrev Left : Writing → Type 0
   Left g = g .result ≡ Refused x → g .out ≡ d
 
   giving-left : (t : List ℕ) → Left (giving d t)

@@ -18,19 +18,19 @@ use Rattle.maps.specs.declared.Checked.the-variants.{Fine, Refused as Bad}
 use Rattle.maps.specs.Said.{pairAt, statusAt, saying}
 use Rattle.writes.specs.declared.Wrote.{Wrote}
 use Rattle.writes.specs.declared.Wrote.the-variants.{Count, Refused}
-use Rattle.writes.specs.Written.{Put, pairLines, statusLine, crlf, rebuilt, written, Given, Is, giving, rebuilding, untouched, writing}
+use Rattle.writes.specs.Written.{Put, pairLines, statusLine, crlf, rebuilt, written, Writing, IsWritten, giving, rebuilding, untouched, writing}
 use Rattle.writes.proofs.PutLaws.{put-more}
 
-is-by : {g h : Given} {r : Wrote} {d : List ℕ} → g ≡ h → r ≡ h .result → d ≡ h .out → Is g r d
-is-by e p q = record { result = p ∙ ap (λ (x : Given). x .result) (sym e); out = q ∙ ap (λ (x : Given). x .out) (sym e) }
+is-by : {g h : Writing} {r : Wrote} {d : List ℕ} → g ≡ h → r ≡ h .result → d ≡ h .out → IsWritten g r d
+is-by e p q = record { result = p ∙ ap (λ (x : Writing). x .result) (sym e); out = q ∙ ap (λ (x : Writing). x .out) (sym e) }
 
 -- a text into an output that is too short, and into one that is not
 module _ (d t : List ℕ) where
-  pub give-short : length d < length t → Is (giving d t) (Refused ShortOutput) d
+  pub give-short : length d < length t → IsWritten (giving d t) (Refused ShortOutput) d
   unfolding giving if_then_else_
   give-short h = is-by (rw (lt-ltb _ _ h)) refl refl
 
-  pub give-all : length t ≤ length d → (d₁ : List ℕ) (k : ℕ) → Put d d₁ 0 k t → Is (giving d t) (Count k) d₁
+  pub give-all : length t ≤ length d → (d₁ : List ℕ) (k : ℕ) → Put d d₁ 0 k t → IsWritten (giving d t) (Count k) d₁
   unfolding giving if_then_else_
   give-all h d₁ k p = is-by (rw (le-ltb _ _ h)) (ap Count (p .ends ∙ zero-add _)) (p .is ∙ pasted-front d t)
 
@@ -47,12 +47,12 @@ module _ (m : HeaderMap) (xs : List Field) (f : live m ≡ xs) (b s : List ℕ) 
 
   module _ (d : List ℕ) where
     pub form-short : length d < length (statusLine (statusAt b s (m .status))) + length (pairLines (map (pairAt b s) xs)) + 2
-        → Is (giving d (rebuilt (saying m b s))) (Refused ShortOutput) d
+        → IsWritten (giving d (rebuilt (saying m b s))) (Refused ShortOutput) d
     form-short h = give-short d (rebuilt (saying m b s)) (omega (arith, size))
 
     pub form-done : length (statusLine (statusAt b s (m .status))) + length (pairLines (map (pairAt b s) xs)) + 2 ≤ length d
         → (d₁ d₂ d₃ : List ℕ) (i j k : ℕ) → Put d d₁ 0 i (statusLine (statusAt b s (m .status)))
-        → Put d₁ d₂ i j (pairLines (map (pairAt b s) xs)) → Put d₂ d₃ j k crlf → Is (giving d (rebuilt (saying m b s))) (Count k) d₃
+        → Put d₁ d₂ i j (pairLines (map (pairAt b s) xs)) → Put d₂ d₃ j k crlf → IsWritten (giving d (rebuilt (saying m b s))) (Count k) d₃
     form-done h d₁ d₂ d₃ i j k p q r =
         let S : List ℕ = statusLine (statusAt b s (m .status)) in
         let F : List ℕ = pairLines (map (pairAt b s) xs) in
@@ -63,22 +63,22 @@ module _ (m : HeaderMap) (xs : List Field) (f : live m ≡ xs) (b s : List ℕ) 
 
 -- the calls, by what the first checks say
 module _ (m : HeaderMap) (b s d : List ℕ) where
-  pub rebuild-refused : (x : Refusal) → Bad x ≡ checkedDone m b s → Is (rebuilding m b s d) (Refused x) d
+  pub rebuild-refused : (x : Refusal) → Bad x ≡ checkedDone m b s → IsWritten (rebuilding m b s d) (Refused x) d
   unfolding rebuilding
   rebuild-refused x e = rw (sym e) (record { result = refl; out = refl })
 
-  pub rebuild-fine : Fine ≡ checkedDone m b s → {r : Wrote} {o : List ℕ} → Is (giving d (rebuilt (saying m b s))) r o → Is (rebuilding m b s d) r o
+  pub rebuild-fine : Fine ≡ checkedDone m b s → {r : Wrote} {o : List ℕ} → IsWritten (giving d (rebuilt (saying m b s))) r o → IsWritten (rebuilding m b s d) r o
   unfolding rebuilding
   rebuild-fine e p = is-by (rw (sym e)) (p .result) (p .out)
 
-  pub write-refused : (x : Refusal) → Bad x ≡ checkedDone m b s → Is (writing m b s d) (Refused x) d
+  pub write-refused : (x : Refusal) → Bad x ≡ checkedDone m b s → IsWritten (writing m b s d) (Refused x) d
   unfolding writing
   write-refused x e = rw (sym e) (record { result = refl; out = refl })
 
-  pub write-rebuilt : untouched (m .edited) (m .count) ≡ false → {r : Wrote} {o : List ℕ} → Is (rebuilding m b s d) r o → Is (writing m b s d) r o
+  pub write-rebuilt : untouched (m .edited) (m .count) ≡ false → {r : Wrote} {o : List ℕ} → IsWritten (rebuilding m b s d) r o → IsWritten (writing m b s d) r o
   unfolding writing written rebuilding if_then_else_
   write-rebuilt u p = is-by (rw u) (p .result) (p .out)
 
-  pub write-plain : Fine ≡ checkedDone m b s → untouched (m .edited) (m .count) ≡ true → {r : Wrote} {o : List ℕ} → Is (giving d (take (m .count) b)) r o → Is (writing m b s d) r o
+  pub write-plain : Fine ≡ checkedDone m b s → untouched (m .edited) (m .count) ≡ true → {r : Wrote} {o : List ℕ} → IsWritten (giving d (take (m .count) b)) r o → IsWritten (writing m b s d) r o
   unfolding writing written if_then_else_
   write-plain e u p = is-by (rw (sym e, u)) (p .result) (p .out)

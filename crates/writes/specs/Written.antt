@@ -53,26 +53,26 @@ unfoldable pub written : HeaderMap → List ℕ → List ℕ → List ℕ
 written m b s = if untouched (m .edited) (m .count) then take (m .count) b else rebuilt (saying m b s)
 
 -- what a call that writes gives: the answer, and the output at its end
-pub record Given : Type 0 where
+pub record Writing : Type 0 where
   pub result : Wrote
   pub out : List ℕ
 
-abbrev pub refuses : List ℕ → Refusal → Given
+abbrev pub refuses : List ℕ → Refusal → Writing
 refuses d x = record { result = Refused x; out = d }
 
 -- "8 output shorter than the written form"; "Both answer the count; output past it stays."
-unfoldable pub giving : List ℕ → List ℕ → Given
+unfoldable pub giving : List ℕ → List ℕ → Writing
 giving d t = if ltb (length d) (length t) then refuses d (refusal 8) else record { result = Count (length t); out = lay d t }
 
 -- "A rebuild call always rebuilds."
-unfoldable pub rebuilding : HeaderMap → List ℕ → List ℕ → List ℕ → Given
+unfoldable pub rebuilding : HeaderMap → List ℕ → List ℕ → List ℕ → Writing
 rebuilding m b s d = unless (checkedDone m b s) (refuses d) (giving d (rebuilt (saying m b s)))
 
-unfoldable pub writing : HeaderMap → List ℕ → List ℕ → List ℕ → Given
+unfoldable pub writing : HeaderMap → List ℕ → List ℕ → List ℕ → Writing
 writing m b s d = unless (checkedDone m b s) (refuses d) (giving d (written m b s))
 
 -- the form of both contracts: the block and the store are only read, the answer and the output are those of one definition
-pub record Is (g : Given) (r : Wrote) (d : List ℕ) : Type 0 where
+pub record IsWritten (g : Writing) (r : Wrote) (d : List ℕ) : Type 0 where
   pub result : r ≡ g .result
   pub out : d ≡ g .out
 

@@ -9,7 +9,7 @@ ghost use mathlib.Core.List.{_∷_, [], map};
 ghost use Prim.Native.Nat.{_+_, _≤_};
 ghost use lib.ListN.{length, take};
 ghost use Rattle.maps.specs.Said.{pairAt, statusAt};
-ghost use Rattle.writes.specs.Written.{Put, pairLine, pairLines, statusLine, giving, rebuilding, untouched, writing, Is};
+ghost use Rattle.writes.specs.Written.{Put, pairLine, pairLines, statusLine, giving, rebuilding, untouched, writing, IsWritten};
 
 pub enum Wrote {
     Count(usize),
@@ -38,7 +38,7 @@ pub fn put_two(out: &mut [u8], at: usize, x: u8, y: u8) -> usize
 
 // Writes a text over the output's start, if the output holds it; 8 if it does not.
 pub fn give(out: &mut [u8], text: &[u8]) -> Wrote
-    ensures { λ r. ⌜ Is (giving (now (out .entry)) (now (text .entry))) r (now (out .exit)) ⌝ }
+    ensures { λ r. ⌜ IsWritten (giving (now (out .entry)) (now (text .entry))) r (now (out .exit)) ⌝ }
 {
     if out.len() < text.len() {
         return Wrote::Refused(Refusal::ShortOutput);
@@ -152,7 +152,7 @@ pub fn put_status<'a>(out: &mut [u8], s: Status, block: &'a [u8], store: &'a [u8
 
 // Status, fields and the blank line, whatever the map was read from.
 pub fn rebuild<'a>(m: HeaderMap, block: &'a [u8], store: &'a [u8], out: &mut [u8]) -> Wrote
-    ensures { λ r. ⌜ Is (rebuilding m (now (block .entry)) (now (store .entry)) (now (out .entry))) r (now (out .exit)) ⌝ }
+    ensures { λ r. ⌜ IsWritten (rebuilding m (now (block .entry)) (now (store .entry)) (now (out .entry))) r (now (out .exit)) ⌝ }
 {
     let s = maps::check_done(m, block, store);
     match s {
@@ -184,7 +184,7 @@ pub fn is_untouched(edited: bool, count: usize) -> bool
 
 // The block as it was read, or the map rebuilt.
 pub fn write<'a>(m: HeaderMap, block: &'a [u8], store: &'a [u8], out: &mut [u8]) -> Wrote
-    ensures { λ r. ⌜ Is (writing m (now (block .entry)) (now (store .entry)) (now (out .entry))) r (now (out .exit)) ⌝ }
+    ensures { λ r. ⌜ IsWritten (writing m (now (block .entry)) (now (store .entry)) (now (out .entry))) r (now (out .exit)) ⌝ }
 {
     let s = maps::check_done(m, block, store);
     match s {

@@ -1,7 +1,7 @@
 -- `abi::telling::bisquecrow_tidy` meets its contract. Assumes nothing.
 use Rattle.abi.proofs.telling.bisquecrow_tidy.Statement.{statement}
 use Rattle.abi.proofs.telling.bisquecrow_tidy.Tie as tie
-use Rattle.tests.specs.Answers.{told as testOf}
+use Rattle.tidy.specs.Answers.{told as testOf}
 use borrow.Author.Needs.{needs}
 use mathlib.Core.Path.{ap, _∙_}
 

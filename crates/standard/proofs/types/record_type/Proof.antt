@@ -1,6 +1,6 @@
 -- `standard::types::record_type` meets its contract: each test passes over one row of the table or answers its code. Assumes nothing.
 use borrow.Author.Needs.{needs}
-use Rattle.standard.specs.Types.{Kind, kinds, codeAmong}
+use Rattle.standard.specs.Types.{TypeName, kinds, codeAmong}
 use Rattle.leaves.specs.Name.{sameName}
 use mathlib.Core.List.{List, [], _∷_}
 use Rattle.standard.proofs.types.record_type.Statement.{statement}
@@ -9,11 +9,11 @@ use mathlib.Core.Path.{_≡_, refl, sym, _∙_}
 use mathlib.Core.Bool.{true, false}
 use Prim.Native.Nat.{ℕ, _-_}
 
-miss : (k : Kind) (ks : List Kind) (s : List ℕ) → sameName s (k .name) ≡ false → codeAmong (k ∷ ks) s ≡ codeAmong ks s
+miss : (k : TypeName) (ks : List TypeName) (s : List ℕ) → sameName s (k .name) ≡ false → codeAmong (k ∷ ks) s ≡ codeAmong ks s
 unfolding codeAmong
 miss k ks s e = rw e
 
-hit : (k : Kind) (ks : List Kind) (s : List ℕ) → sameName s (k .name) ≡ true → codeAmong (k ∷ ks) s ≡ k .code
+hit : (k : TypeName) (ks : List TypeName) (s : List ℕ) → sameName s (k .name) ≡ true → codeAmong (k ∷ ks) s ≡ k .code
 unfolding codeAmong
 hit k ks s e = rw e
 

@@ -9,8 +9,8 @@ use Prim.Native.Nat.{_-_}
 enum-told : tie.Need-enum-told
 enum-told c = search needs
 
-goes-on-requires : tie.Need-goes-on-requires
-goes-on-requires c κs = search needs
+carries-on-requires : tie.Need-carries-on-requires
+carries-on-requires c κs = search needs
 
 enum-known-h : tie.Need-enum-known-h
 enum-known-h c = search needs
@@ -31,7 +31,7 @@ at-stage-requires-2 : tie.Need-at-stage-requires-2
 at-stage-requires-2 c κs = search needs
 
 returns : tie.Need-returns
-returns c = λ m. c .goes-on .ensures m ∙ rw (c .before .enum-told .given .1)
+returns c = λ m. c .carries-on .ensures m ∙ rw (c .before .enum-told .given .1)
 
 returns-2 : tie.Need-returns-2
 returns-2 c = λ m. c .opens .ensures m ∙ rw (c .before .before .h .given .1)
@@ -47,7 +47,7 @@ behind-header-spec =
     tie.close
     (tie.spec
     enum-told
-    goes-on-requires
+    carries-on-requires
     enum-known-h
     opens-requires
     enum-told-2

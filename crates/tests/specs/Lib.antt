@@ -1,4 +1,0 @@
-pub mod Keys
-pub mod Pass
-pub mod Tests
-pub mod Answers
