@@ -22,16 +22,16 @@ use Rattle.edits.specs.Fields.{replaced}
 use Rattle.edits.specs.Edits.{withFields, withStatus, withField, leaving, thinned}
 use Rattle.maps.proofs.FitLaws.{status-mono, all-mono, all-snoc}
 use Rattle.edits.proofs.FieldLaws.{keeps-fit, replaced-fit}
-use Rattle.edits.proofs.OutcomeLaws.{Outcome, Outcome, made-of, setting-outcome, appending-outcome, removing-outcome, statusing-outcome}
+use Rattle.edits.proofs.OutcomeLaws.{DoneBy, Outcome, made-of, setting-outcome, appending-outcome, removing-outcome, statusing-outcome}
 use Rattle.says.specs.Says.{Ask, ask-set, ask-append, ask-remove, ask-status, asked, askSaid, askText, after, usable}
 use Rattle.says.proofs.AgainLaws.{again, pasted-long, new-fits}
 use Rattle.says.proofs.MadeSays.{kept-says, set-made, append-made, status-made}
 
 module _ {m : HeaderMap} {b s : List ℕ} {n : HeaderMap} {t : List ℕ} {g : Given Edited} where
-  made-says : Outcome m b s n t g → after g ≡ saying n b (pasted s (m .mark) t)
+  made-says : DoneBy m b s n t g → after g ≡ saying n b (pasted s (m .mark) t)
   made-says d = ap after (d .is)
 
-  module _ (d : Outcome m b s n t g) where
+  module _ (d : DoneBy m b s n t g) where
     long : length (pasted s (m .mark) t) ≡ length s
     long = let w = ready-of _ m b s (d .fine) in pasted-long s (m .mark) t (omega (arith, d .fits, w .store))
 
@@ -40,7 +40,7 @@ module _ {m : HeaderMap} {b s : List ℕ} {n : HeaderMap} {t : List ℕ} {g : Gi
 
 module _ (m : HeaderMap) (b s : List ℕ) where
   -- other fields that fit below the new mark
-  fields-again : {t : List ℕ} {g : Given Edited} (xs : List Field) (mark : ℕ) (edited : Bool) → Outcome m b s (withFields m xs mark edited) t g
+  fields-again : {t : List ℕ} {g : Given Edited} (xs : List Field) (mark : ℕ) (edited : Bool) → DoneBy m b s (withFields m xs mark edited) t g
       → m .mark ≤ mark → mark ≤ m .room → FitAll (m .count) mark xs → Fine ≡ usable g
   fields-again {t} {g} xs mark edited d up h f =
       let w = ready-of _ m b s (d .fine) in
@@ -61,7 +61,7 @@ module _ (m : HeaderMap) (b s : List ℕ) where
   ask-outcome (ask-remove k) = removing-outcome m b s k
   ask-outcome (ask-status t) = statusing-outcome m b s t
 
-  pub ask-made : (a : Ask) → asked a m b s .result .answer ≡ Done → Outcome m b s (madeBy a m b s) (askText a) (asked a m b s)
+  pub ask-made : (a : Ask) → asked a m b s .result .answer ≡ Done → DoneBy m b s (madeBy a m b s) (askText a) (asked a m b s)
   ask-made a e = made-of (ask-outcome a) e
 
   -- what the map says then
@@ -75,7 +75,7 @@ module _ (m : HeaderMap) (b s : List ℕ) where
   ask-says a e = let d = ask-made a e in made-says d ∙ says-by a (d .fine)
 
   -- the map can be used again
-  again-by : (a : Ask) → Outcome m b s (madeBy a m b s) (askText a) (asked a m b s) → Fine ≡ usable (asked a m b s)
+  again-by : (a : Ask) → DoneBy m b s (madeBy a m b s) (askText a) (asked a m b s) → Fine ≡ usable (asked a m b s)
   again-by (ask-set k v) d =
       let w = ready-of _ m b s (d .fine) in
       let up : m .mark ≤ m .mark + length (askText (ask-set k v)) = omega arith in
