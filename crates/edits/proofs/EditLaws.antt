@@ -1,13 +1,13 @@
 -- What an edit gives, case by case. Assumes nothing.
-use mathlib.Core.Path.{_≡_, refl, sym, ap, _∙_}
+use mathlib.Core.Path.{_≡_, refl, sym, ap, subst, _∙_}
 use mathlib.Core.Bool.{Bool, true, false, _||_}
 use mathlib.Core.List.{List, _++_}
 use Prim.Native.Nat.{ℕ, _+_, _-_, _≤_, _<_}
 use native.Mathlib.Omega.{arith}
 use lib.Dec.{leb, ltb}
-use borrow.Author.Tests.{lt-ltb, le-ltb, le-leb, lt-leb, leb-true, leb-false}
+use borrow.Author.Tests.{lt-ltb, le-ltb, le-leb, lt-leb, leb-true, leb-false, ltb-true, ltb-false}
 use lib.ListN.{length, length-append, length-take}
-use Rattle.leaves.proofs.ChoiceLaws.{if-true, if-false}
+use Rattle.leaves.proofs.ChoiceLaws.{if-true, if-false, clash}
 use Rattle.leaves.specs.Paste.{pasted}
 use Rattle.leaves.specs.Sanitise.{sanitised}
 use Rattle.leaves.specs.declared.refusals.Refusal.{Refusal}
@@ -24,9 +24,11 @@ use Rattle.maps.proofs.GoodLaws.{goes-on, refused-by}
 use Rattle.lookups.specs.Lookups.{named}
 use Rattle.edits.specs.declared.Edit.the-variants.{Done, Refused}
 use Rattle.edits.specs.declared.Edited.{Edited}
+use Rattle.edits.specs.declared.Plan.{Plan}
+use Rattle.edits.specs.declared.Plan.the-variants.{Put, Refused as NotPut}
 use Rattle.edits.specs.declared.tables.Kept.{Kept}
 use Rattle.edits.specs.Fields.{firstAt, putAt, laid}
-use Rattle.edits.specs.Edits.{remade, refusing, done, changing, newField, setting, appending, putting, leaving, removing, statusing}
+use Rattle.edits.specs.Edits.{remade, refusing, done, changing, newField, planned, setting, appending, putting, leaving, removing, statusing}
 use Rattle.edits.proofs.PutLaws.{replaced-at, appended-at, put-over, put-fits}
 
 -- a text fits into what another leaves free if both fit
@@ -36,6 +38,37 @@ fits-rest k v free h = choose (leb v (free - k)) refl
     choose : (t : Bool) → leb v (free - k) ≡ t → t ≡ leb (k + v) free
     choose true e = let l : k + v ≤ free = omega (arith, leb-true v (free - k) e) in sym (le-leb _ _ l)
     choose false e = let l : free < k + v = omega (arith, leb-false v (free - k) e) in sym (lt-leb _ _ l)
+
+-- what putting the texts k and v in at i comes to
+module _ (i mark room : ℕ) (k v : List ℕ) where
+  pub plan-full : 256 ≤ i → planned i mark room k v ≡ NotPut FieldsFull
+  unfolding planned
+  plan-full h = if-false _ _ (le-ltb _ _ h)
+
+  pub plan-room : i < 256 → leb (length k + length v) (room - mark) ≡ false → planned i mark room k v ≡ NotPut StoreFull
+  unfolding planned
+  plan-room h e = if-true _ _ (lt-ltb _ _ h) ∙ if-false _ _ e
+
+  pub plan-put : i < 256 → leb (length k + length v) (room - mark) ≡ true → planned i mark room k v ≡ Put (newField mark (length k) (length v))
+  unfolding planned
+  plan-put h e = if-true _ _ (lt-ltb _ _ h) ∙ if-true _ _ e
+
+  -- what holds if it comes to a field
+  pub record Planned (f : Field) : Type 0 where
+    pub inside : i < 256
+    pub fits : mark + length k + length v ≤ room
+    pub is : f ≡ newField mark (length k) (length v)
+
+  pub plan-of : mark ≤ room → (f : Field) → Put f ≡ planned i mark room k v → Planned f
+  plan-of l f e = choose (ltb i 256) refl (leb (length k + length v) (room - mark)) refl
+    where
+      choose : (t : Bool) → ltb i 256 ≡ t → (u : Bool) → leb (length k + length v) (room - mark) ≡ u → Planned f
+      choose false p u q = clash (cc (plan-full (ltb-false _ _ p)))
+      choose true p false q = clash (cc (plan-room (ltb-true _ _ p) q))
+      choose true p true q =
+          let z : Put f ≡ Put (newField mark (length k) (length v)) = e ∙ plan-put (ltb-true _ _ p) q in
+          let g : length k + length v ≤ room - mark = leb-true _ _ q in
+          record { inside = ltb-true _ _ p; fits = omega (arith, g, l); is = cc }
 
 -- by what the definition gives
 pub is-by : {g h : Given Edited} {r : Edited} {b s : List ℕ} → g ≡ h → Is h r b s → Is g r b s
@@ -98,6 +131,25 @@ module _ (m : HeaderMap) (b s : List ℕ) where
           is-by
           (change-done _ _ (put-fits (named b s (sanitised true key)) _ (live m) i h short) (rw e g))
           (record { result = rw (ke, fe, me, e); block = refl; store = ze })
+
+    -- 5 or 6, by what it comes to
+    pub put-refused : length (m .table) ≡ 256 → i ≤ m .fields → m .mark ≤ m .room
+        → (x : Refusal) → NotPut x ≡ planned i (m .mark) (m .room) (sanitised true key) (sanitised false value)
+        → Is (putting m b s i key value) (record { answer = Refused x; map = m }) b s
+    put-refused w h l x e = choose (ltb i 256) refl (leb (length (sanitised true key) + length (sanitised false value)) (m .room - m .mark)) refl
+      where
+        choose : (t : Bool) → ltb i 256 ≡ t → (u : Bool) → leb (length (sanitised true key) + length (sanitised false value)) (m .room - m .mark) ≡ u
+            → Is (putting m b s i key value) (record { answer = Refused x; map = m }) b s
+        choose false p u q =
+            let z : NotPut FieldsFull ≡ NotPut x = sym (e ∙ plan-full i (m .mark) (m .room) (sanitised true key) (sanitised false value) (ltb-false _ _ p)) in
+            let y : FieldsFull ≡ x = cc in
+            rw (← y) (put-full w h (ltb-false _ _ p))
+        choose true p false q =
+            let z : NotPut StoreFull ≡ NotPut x = sym (e ∙ plan-room i (m .mark) (m .room) (sanitised true key) (sanitised false value) (ltb-true _ _ p) q) in
+            let y : StoreFull ≡ x = cc in
+            let g : m .room - m .mark < length (sanitised true key) + length (sanitised false value) = leb-false _ _ q in
+            rw (← y) (put-room (ltb-true _ _ p) (omega (arith, g, l)))
+        choose true p true q = clash (cc (plan-put i (m .mark) (m .room) (sanitised true key) (sanitised false value) (ltb-true _ _ p) q))
 
   module _ (key value : List ℕ) where
     -- set and append, by the number of the field

@@ -1,8 +1,8 @@
 -- What the edits give: the answer, the map and both loans. Assumes nothing.
 use mathlib.Core.Bool.{Bool, true, false, _||_}
 use mathlib.Core.List.{List, [], _∷_, _++_}
-use Prim.Native.Nat.{ℕ, _+_}
-use lib.Dec.{ltb}
+use Prim.Native.Nat.{ℕ, _+_, _-_}
+use lib.Dec.{leb, ltb}
 use lib.ListN.{length}
 use Rattle.leaves.specs.Choice.{if_then_else_}
 use Rattle.leaves.specs.Paste.{lay, pasted}
@@ -20,6 +20,8 @@ use Rattle.lookups.specs.Lookups.{named}
 use Rattle.edits.specs.Fields.{keeps, replaced, putAt}
 use Rattle.edits.specs.declared.Edit.the-variants.{Done, Refused}
 use Rattle.edits.specs.declared.Edited.{Edited}
+use Rattle.edits.specs.declared.Plan.{Plan}
+use Rattle.edits.specs.declared.Plan.the-variants.{Put, Refused as NotPut}
 
 -- a map with another table, number of fields, status and mark, and whether it is edited
 abbrev pub remade : HeaderMap → List Field → ℕ → Status → ℕ → Bool → HeaderMap
@@ -62,6 +64,14 @@ changing m b s n t =
 -- "Set and append put the new key, then the new value, at the mark": where they go
 abbrev pub newField : ℕ → ℕ → ℕ → Field
 newField n k v = editField (inStore n (n + k)) (inStore (n + k) (n + k + v))
+
+-- what putting the texts k and v in at the number i comes to: "5 a 257th field is needed", "6 mark plus new octets exceed the room", else the
+-- field that is to stand at the mark
+unfoldable pub planned : ℕ → ℕ → ℕ → List ℕ → List ℕ → Plan
+planned i mark room k v =
+    if ltb i 256
+    then (if leb (length k + length v) (room - mark) then Put (newField mark (length k) (length v)) else NotPut (refusal 6))
+    else NotPut (refusal 5)
 
 -- an edit that makes the map n and puts the text t at the mark, after 3, 2 and 7
 abbrev pub editing : HeaderMap → List ℕ → List ℕ → HeaderMap → List ℕ → Given Edited

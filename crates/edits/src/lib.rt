@@ -16,7 +16,7 @@ ghost use Rattle.leaves.specs.Sanitise.{sanitised};
 ghost use Rattle.maps.specs.Good.{checkedDone};
 ghost use Rattle.maps.specs.declared.Checked.the-variants.{Fine};
 ghost use Rattle.maps.specs.Maps.{Is};
-ghost use Rattle.edits.specs.Edits.{newField, putting, removing, setting, appending, statusing};
+ghost use Rattle.edits.specs.Edits.{newField, planned, putting, removing, setting, appending, statusing};
 
 mod tables;
 
@@ -28,6 +28,12 @@ pub enum Edit {
 pub struct Edited {
     pub answer: Edit,
     pub map: HeaderMap,
+}
+
+// What an edit that puts a key and a value in comes to: a field, or a refusal.
+pub enum Plan {
+    Put(Field),
+    Refused(Refusal),
 }
 
 // Whether a map is edited once k of its n fields stay.
@@ -67,7 +73,7 @@ pub fn remove<'a>(m: HeaderMap, block: &'a [u8], store: &'a [u8], key: &[u8]) ->
 }
 
 // The field whose key and value are to stand at the mark.
-pub fn new_field(mark: usize, k: usize, v: usize) -> Field
+fn new_field(mark: usize, k: usize, v: usize) -> Field
     requires { ⌜ mark + k + v ≤ 65536 ⌝ }
     ensures { λ r. ⌜ r ≡ newField mark k v ⌝ }
 {
@@ -78,7 +84,7 @@ pub fn new_field(mark: usize, k: usize, v: usize) -> Field
 }
 
 // Whether two texts fit into the store's free part.
-pub fn fit(free: usize, k: usize, v: usize) -> bool
+fn fit(free: usize, k: usize, v: usize) -> bool
     ensures { λ r. ⌜ r ≡ leb (k + v) free ⌝ }
 {
     if k <= free {
@@ -98,6 +104,22 @@ pub fn write_both(store: &mut [u8], mark: usize, key: &[u8], value: &[u8]) -> us
     mid + v
 }
 
+// What putting a key and a value in at a number comes to: the field that is to stand at the mark, or 5, or 6.
+pub fn plan_put(at: usize, mark: usize, room: usize, key: &[u8], value: &[u8]) -> Plan
+    requires { ⌜ (mark ≤ room) × (room ≤ 65536) ⌝ }
+    ensures { λ r. ⌜ r ≡ planned at mark room (sanitised true (now (key .entry))) (sanitised false (now (value .entry))) ⌝ }
+{
+    if at < maps::FIELDS {
+        let k = sanitise::sanitised_length(key, true);
+        let v = sanitise::sanitised_length(value, false);
+        if fit(room - mark, k, v) {
+            return Plan::Put(new_field(mark, k, v));
+        }
+        return Plan::Refused(Refusal::StoreFull);
+    }
+    Plan::Refused(Refusal::FieldsFull)
+}
+
 // The new key and value become the field number at, and later fields of that key go.
 fn put_at<'a>(
     m: HeaderMap,
@@ -110,19 +132,15 @@ fn put_at<'a>(
     requires { ⌜ (Fine ≡ checkedDone m (now block) (now store)) × (at ≤ m .fields) ⌝ }
     ensures { λ r. ⌜ Is (putting m (now (block .entry)) (now (store .entry)) at (now (key .entry)) (now (value .entry))) r (now (block .entry)) (now (store .exit)) ⌝ }
 {
-    if at < maps::FIELDS {
-        let start = m.mark;
-        let k = sanitise::sanitised_length(key, true);
-        let v = sanitise::sanitised_length(value, false);
-        if fit(m.room - start, k, v) {
+    let planned = plan_put(at, m.mark, m.room, key, value);
+    match planned {
+        Plan::Put(f) => {
             let t = m.table;
-            let n = m.fields;
-            let f = new_field(start, k, v);
-            let kept = tables::put(t, n, at, f, block, store, key);
+            let kept = tables::put(t, m.fields, at, f, block, store, key);
             let table = kept.table;
             let fields = kept.n;
-            let mark = write_both(store, start, key, value);
-            let filled = HeaderMap {
+            let mark = write_both(store, m.mark, key, value);
+            let map = HeaderMap {
                 table,
                 fields,
                 mark,
@@ -130,16 +148,13 @@ fn put_at<'a>(
                 ..m
             };
             let answer = Edit::Done;
-            return Edited {
-                answer,
-                map: filled,
-            };
+            Edited { answer, map }
         }
-        let answer = Edit::Refused(Refusal::StoreFull);
-        return Edited { answer, map: m };
+        Plan::Refused(x) => {
+            let answer = Edit::Refused(x);
+            Edited { answer, map: m }
+        }
     }
-    let answer = Edit::Refused(Refusal::FieldsFull);
-    Edited { answer, map: m }
 }
 
 // The first match gets the new key and value and later ones go, or they are appended.

@@ -1,5 +1,6 @@
 // Edits of a map whose table is lent in numbers: set, append, remove and set status, none of which copies the table.
 use edits::Edit;
+use edits::Plan;
 use leaves::refusals::Refusal;
 use leaves::sanitise;
 use maps::Checked;
@@ -68,32 +69,25 @@ fn put_at<'a>(
     requires { ⌜ (length (now t) ≡ 1024) × (Fine ≡ checkedDone (mapIn (now t) h) (now block) (now store)) × (at ≤ h .fields) ⌝ }
     ensures { λ r. ⌜ Is (putting (mapIn (now (t .entry)) h) (now (block .entry)) (now (store .entry)) at (now (key .entry)) (now (value .entry))) (editedIn (now (t .exit)) r) (now (block .entry)) (now (store .exit)) ⌝ }
 {
-    if at < maps::FIELDS {
-        let start = h.mark;
-        let k = sanitise::sanitised_length(key, true);
-        let v = sanitise::sanitised_length(value, false);
-        if edits::fit(h.room - start, k, v) {
-            let n = h.fields;
-            let f = edits::new_field(start, k, v);
-            let fields = tables::put(t, n, at, f, block, store, key);
-            let mark = edits::write_both(store, start, key, value);
-            let filled = Head {
+    let planned = edits::plan_put(at, h.mark, h.room, key, value);
+    match planned {
+        Plan::Put(f) => {
+            let fields = tables::put(t, h.fields, at, f, block, store, key);
+            let mark = edits::write_both(store, h.mark, key, value);
+            let head = Head {
                 fields,
                 mark,
                 edited: true,
                 ..h
             };
             let answer = Edit::Done;
-            return EditedHead {
-                answer,
-                head: filled,
-            };
+            EditedHead { answer, head }
         }
-        let answer = Edit::Refused(Refusal::StoreFull);
-        return EditedHead { answer, head: h };
+        Plan::Refused(x) => {
+            let answer = Edit::Refused(x);
+            EditedHead { answer, head: h }
+        }
     }
-    let answer = Edit::Refused(Refusal::FieldsFull);
-    EditedHead { answer, head: h }
 }
 
 // The first match gets the new key and value and later ones go, or they are appended.

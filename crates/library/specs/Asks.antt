@@ -71,8 +71,7 @@ pub record SharedAsk : Type 0 where
   pub colon-of : Asks Rattle.reader.proofs.colon_of.Reads.Asked (λ κ a. Lying (now (first a)) (second a) (third a) (now (fourth a)) (fifth a))
   pub check-rooms : Free Rattle.reader.proofs.check_rooms.Reads.Asked
   pub changed : Free Rattle.edits.proofs.changed.Reads.Asked
-  pub new-field : Asks Rattle.edits.proofs.new_field.Reads.Asked (λ κ a. (first a) + (second a) + (third a) ≤ 65536)
-  pub fit : Free Rattle.edits.proofs.fit.Reads.Asked
+  pub plan-put : Asks Rattle.edits.proofs.plan_put.Reads.Asked (λ κ a. (second a ≤ third a) × (third a ≤ 65536))
   pub write-both : Asks Rattle.edits.proofs.write_both.Reads.Asked (λ κ a. (second a) + length (sanitised true (now (third a))) + length (sanitised false (now (fourth a))) ≤ length (now (first a)))
   pub put-two : Asks Rattle.writes.proofs.put_two.Reads.Asked (λ κ a. (second a) + 2 ≤ length (now (first a)))
   pub give : Free Rattle.writes.proofs.give.Reads.Asked

@@ -3,7 +3,7 @@ use mathlib.Core.Path.{_≡_}
 use mathlib.Core.Bool.{true, false, _||_}
 use mathlib.Core.List.{[], _∷_, _++_}
 use Prim.Native.Nat.{_+_, _-_, _≤_}
-use lib.Dec.{leb, ltb}
+use lib.Dec.{ltb}
 use lib.ListN.{length}
 use denote.Ref.{now}
 use Rattle.leaves.specs.Octets.{before}
@@ -14,7 +14,7 @@ use Rattle.maps.specs.Said.{saying, statusAt}
 use Rattle.reader.specs.Calls.{checkedRooms}
 use Rattle.reader.specs.Heads.{headAfter}
 use Rattle.lookups.specs.Lookups.{handedOut, statusIn}
-use Rattle.edits.specs.Edits.{newField}
+use Rattle.edits.specs.Edits.{planned}
 use Rattle.writes.specs.Written.{IsWritten, Put, giving, pairLine, statusLine, untouched}
 use Rattle.openings.specs.Opening.{opened}
 use Rattle.openings.specs.Sights.{noted, openedAt}
@@ -37,10 +37,8 @@ pub record Shared : Type 0 where
   -- edits
   -- changed(e, k, n)
   pub changed : Says Rattle.edits.proofs.changed.Reads.Learnt (λ κ a r e. r ≡ ((first a) || ltb (second a) (third a)))
-  -- new_field(mark, k, v)
-  pub new-field : Says Rattle.edits.proofs.new_field.Reads.Learnt (λ κ a r e. r ≡ newField (first a) (second a) (third a))
-  -- fit(free, k, v)
-  pub fit : Says Rattle.edits.proofs.fit.Reads.Learnt (λ κ a r e. r ≡ leb ((second a) + (third a)) (first a))
+  -- plan_put(at, mark, room, key, value)
+  pub plan-put : Says Rattle.edits.proofs.plan_put.Reads.Learnt (λ κ a r e. r ≡ planned (first a) (second a) (third a) (sanitised true (now (fourth a))) (sanitised false (now (fifth a))))
   -- write_both(store, mark, key, value)
   pub write-both : Says Rattle.edits.proofs.write_both.Reads.Learnt (λ κ a r e. (r ≡ (second a) + length (sanitised true (now (third a))) + length (sanitised false (now (fourth a)))) × (now (first e) ≡ pasted (now (first a)) (second a) (sanitised true (now (third a)) ++ sanitised false (now (fourth a)))))
   -- writing

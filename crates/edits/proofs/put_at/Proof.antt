@@ -1,105 +1,59 @@
 -- `edits::put_at` meets its contract. Assumes nothing.
-use lib.ListN.{length-map}
-use borrow.Author.Tests.{leb-true, leb-false}
-use Rattle.leaves.specs.Sanitise.{sanitised}
-use Rattle.maps.proofs.GoodLaws.{ready-of}
-use Rattle.edits.proofs.EditLaws.{put-full, put-room, put-done}
 use borrow.Author.Needs.{needs}
+use native.Mathlib.Omega.{arith}
+use mathlib.Core.Path.{sym, _∙_}
+use lib.ListN.{length-map}
+use Rattle.maps.proofs.GoodLaws.{ready-of}
+use Rattle.edits.proofs.EditLaws.{plan-of, put-refused, put-done}
 use Rattle.edits.proofs.put_at.Statement.{statement}
 use Rattle.edits.proofs.put_at.Tie as tie
-use native.Mathlib.Omega.{arith}
-use mathlib.Core.Path.{_≡_, sym, _∙_}
-use mathlib.Core.Bool.{true, false}
-use Prim.Native.Nat.{_+_, _-_, _≤_, _<_}
-use lib.ListN.{length}
 
-sanitised-length-requires : tie.Need-sanitised-length-requires
-sanitised-length-requires c κs = search needs
+plan-put-requires : tie.Need-plan-put-requires
+plan-put-requires c κs =
+    let z = c .before .before .before .before in
+    let a = z .args in
+    let w = ready-of _ (a .m) (a .block .now) (a .store .now) (z .pre .0) in
+    (w .mark, w .most)
 
-sanitised-length-requires-2 : tie.Need-sanitised-length-requires-2
-sanitised-length-requires-2 c κs = search needs
-
-sub-fit : tie.Need-sub-fit
-sub-fit c =
-    let a = c .before .before .before .before .before .before .before .before .args in
-    let e = c .before .before .before .before .before .before .before .before .pre .0 in
-    let w = ready-of _ (a .m) (a .block .now) (a .store .now) e in
-    w .mark
-
-fit-requires : tie.Need-fit-requires
-fit-requires c κs = search needs
-
-new-field-requires : tie.Need-new-field-requires
-new-field-requires c κs =
-    let a = c .before .before .before .before .before .before .before .before .before .before .before .args in
-    let e = c .before .before .before .before .before .before .before .before .before .before .before .pre .0 in
-    let w = ready-of _ (a .m) (a .block .now) (a .store .now) e in
-    let f : c .before .before .before .before .before .sanitised-length .result + c .before .before .before .before .sanitised-length2 .result ≤ a .m .room - a .m .mark = leb-true _ _ (sym (c .before .before .fit .ensures) ∙ c .before .if2 .taken) in
-    omega (arith, w .mark, w .most)
+enum-known-planned : tie.Need-enum-known-planned
+enum-known-planned c = search needs
 
 put-requires : tie.Need-put-requires
 put-requires c κs =
-    let a = c .before .before .before .before .before .before .before .before .before .before .before .before .before .args in
-    let e = c .before .before .before .before .before .before .before .before .before .before .before .before .before .pre .0 in
-    let w = ready-of _ (a .m) (a .block .now) (a .store .now) e in
-    (w .few, c .before .before .before .before .before .before .before .before .if1 .taken, c .before .before .before .before .before .before .before .before .before .before .before .before .before .pre .1)
+    let z = c .before .before .before .before .before .before .before .before .before .before in
+    let a = z .args in
+    let w = ready-of _ (a .m) (a .block .now) (a .store .now) (z .pre .0) in
+    let p = plan-of _ _ _ _ _ (w .mark) _ (sym (c .before .before .before .planned .given .1) ∙ c .before .before .before .before .before .plan-put .ensures) in
+    (w .few, p .inside, z .pre .1)
 
 write-both-requires : tie.Need-write-both-requires
 write-both-requires c κs =
-    let a = c .before .before .before .before .before .before .before .before .before .before .before .before .before .before .before .before .args in
-    let e = c .before .before .before .before .before .before .before .before .before .before .before .before .before .before .before .before .pre .0 in
-    let w = ready-of _ (a .m) (a .block .now) (a .store .now) e in
-    let k : c .before .before .before .before .before .before .before .before .before .before .sanitised-length .result ≡ length (sanitised true (a .key .now)) = c .before .before .before .before .before .before .before .before .before .before .sanitised-length .ensures in
-    let v : c .before .before .before .before .before .before .before .before .before .sanitised-length2 .result ≡ length (sanitised false (a .value .now)) = c .before .before .before .before .before .before .before .before .before .sanitised-length2 .ensures in
-    let f : c .before .before .before .before .before .before .before .before .before .before .sanitised-length .result + c .before .before .before .before .before .before .before .before .before .sanitised-length2 .result ≤ a .m .room - a .m .mark = leb-true _ _ (sym (c .before .before .before .before .before .before .before .fit .ensures) ∙ c .before .before .before .before .before .before .if2 .taken) in
-    omega (arith, w .mark, w .store)
+    let z = c .before .before .before .before .before .before .before .before .before .before .before .before .before in
+    let a = z .args in
+    let w = ready-of _ (a .m) (a .block .now) (a .store .now) (z .pre .0) in
+    let p = plan-of _ _ _ _ _ (w .mark) _ (sym (c .before .before .before .before .before .before .planned .given .1) ∙ c .before .before .before .before .before .before .before .before .plan-put .ensures) in
+    omega (arith, p .fits, w .store)
+
+enum-known-planned-2 : tie.Need-enum-known-planned-2
+enum-known-planned-2 c = search needs
 
 same-length : tie.Need-same-length
 same-length c = search needs
 
 returns : tie.Need-returns
 returns c =
-    let a = c .before .before .before .before .before .before .before .before .before .before .before .before .before .before .before .before .before .before .before .args in
-    let e = c .before .before .before .before .before .before .before .before .before .before .before .before .before .before .before .before .before .before .before .pre .0 in
-    let w = ready-of _ (a .m) (a .block .now) (a .store .now) e in
-    let k : c .before .before .before .before .before .before .before .before .before .before .before .before .before .sanitised-length .result ≡ length (sanitised true (a .key .now)) = c .before .before .before .before .before .before .before .before .before .before .before .before .before .sanitised-length .ensures in
-    let v : c .before .before .before .before .before .before .before .before .before .before .before .before .sanitised-length2 .result ≡ length (sanitised false (a .value .now)) = c .before .before .before .before .before .before .before .before .before .before .before .before .sanitised-length2 .ensures in
-    let f : c .before .before .before .before .before .before .before .before .before .before .before .before .before .sanitised-length .result + c .before .before .before .before .before .before .before .before .before .before .before .before .sanitised-length2 .result ≤ a .m .room - a .m .mark = leb-true _ _ (sym (c .before .before .before .before .before .before .before .before .before .before .fit .ensures) ∙ c .before .before .before .before .before .before .before .before .before .if2 .taken) in
-    let g : a .m .mark + length (sanitised true (a .key .now)) + length (sanitised false (a .value .now)) ≤ a .m .room = omega (arith, w .mark) in
-    let n = rw (k, v) at (c .before .before .before .before .before .before .before .new-field .ensures) in
-    put-done (a .m) (a .block .now) (a .store .now) (a .key .now) (a .value .now) (a .at) (w .few) (c .before .before .before .before .before .before .before .before .before .before .before .before .before .before .if1 .taken) g _ n _ (c .before .before .before .before .before .put .ensures) _ (c .before .before .write-both .ensures .0) _ (c .before .before .write-both .ensures .1)
+    let z = c .before .before .before .before .before .before .before .before .before .before .before .before .before .before .before .before in
+    let a = z .args in
+    let w = ready-of _ (a .m) (a .block .now) (a .store .now) (z .pre .0) in
+    let p = plan-of _ _ _ _ _ (w .mark) _ (sym (c .before .before .before .before .before .before .before .before .before .planned .given .1) ∙ c .before .before .before .before .before .before .before .before .before .before .before .plan-put .ensures) in
+    put-done (a .m) (a .block .now) (a .store .now) (a .key .now) (a .value .now) (a .at) (w .few) (p .inside) (p .fits) _ (p .is) _ (c .before .before .before .before .before .put .ensures) _ (c .before .before .write-both .ensures .0) _ (c .before .before .write-both .ensures .1)
 
 returns-2 : tie.Need-returns-2
 returns-2 c =
-    let a = c .before .before .before .before .before .before .before .before .before .before .args in
-    let e = c .before .before .before .before .before .before .before .before .before .before .pre .0 in
-    let w = ready-of _ (a .m) (a .block .now) (a .store .now) e in
-    let k : c .before .before .before .before .sanitised-length .result ≡ length (sanitised true (a .key .now)) = c .before .before .before .before .sanitised-length .ensures in
-    let v : c .before .before .before .sanitised-length2 .result ≡ length (sanitised false (a .value .now)) = c .before .before .before .sanitised-length2 .ensures in
-    let f : a .m .room - a .m .mark < c .before .before .before .before .sanitised-length .result + c .before .before .before .sanitised-length2 .result = leb-false _ _ (sym (c .before .fit .ensures) ∙ c .if2 .left) in
-    let g : a .m .room < a .m .mark + length (sanitised true (a .key .now)) + length (sanitised false (a .value .now)) = omega (arith, w .mark) in
-    put-room (a .m) (a .block .now) (a .store .now) (a .key .now) (a .value .now) (a .at) (w .few) (c .before .before .before .before .before .if1 .taken) g
-
-returns-3 : tie.Need-returns-3
-returns-3 c =
-    let a = c .before .before .before .before .before .args in
-    let e = c .before .before .before .before .before .pre .0 in
-    let w = ready-of _ (a .m) (a .block .now) (a .store .now) e in
-    let l : length (a .m .table) ≡ 256 = sym (length-map (a .m .table) _) ∙ c .before .before .before .before .before .good .0 .1 .1 .0 .1 .0 .1 in
-    put-full (a .m) (a .block .now) (a .store .now) (a .key .now) (a .value .now) (a .at) (w .few) l (c .before .before .before .before .before .pre .1) (c .if1 .left)
+    let z = c .before .before .before .before .before .before .before .before in
+    let a = z .args in
+    let w = ready-of _ (a .m) (a .block .now) (a .store .now) (z .pre .0) in
+    put-refused (a .m) (a .block .now) (a .store .now) (a .key .now) (a .value .now) (a .at) (w .few) (sym (length-map (a .m .table) _) ∙ z .good .0 .1 .1 .0 .1 .0 .1) (z .pre .1) (w .mark) _ (sym (c .before .planned2 .given .1) ∙ c .before .before .before .plan-put .ensures)
 
 pub put-at-spec : {M : Type 1} → statement M
-put-at-spec =
-    tie.close
-    (tie.spec
-    sanitised-length-requires
-    sanitised-length-requires-2
-    sub-fit
-    fit-requires
-    new-field-requires
-    put-requires
-    write-both-requires
-    same-length
-    returns
-    returns-2
-    returns-3)
+put-at-spec = tie.close (tie.spec plan-put-requires enum-known-planned put-requires write-both-requires enum-known-planned-2 same-length returns returns-2)
