@@ -140,7 +140,7 @@ fn put_at<'a>(
             let table = kept.table;
             let fields = kept.n;
             let mark = write_both(store, m.mark, key, value);
-            let map = HeaderMap {
+            let filled = HeaderMap {
                 table,
                 fields,
                 mark,
@@ -148,7 +148,10 @@ fn put_at<'a>(
                 ..m
             };
             let answer = Edit::Done;
-            Edited { answer, map }
+            Edited {
+                answer,
+                map: filled,
+            }
         }
         Plan::Refused(x) => {
             let answer = Edit::Refused(x);

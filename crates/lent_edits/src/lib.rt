@@ -74,14 +74,17 @@ fn put_at<'a>(
         Plan::Put(f) => {
             let fields = tables::put(t, h.fields, at, f, block, store, key);
             let mark = edits::write_both(store, h.mark, key, value);
-            let head = Head {
+            let filled = Head {
                 fields,
                 mark,
                 edited: true,
                 ..h
             };
             let answer = Edit::Done;
-            EditedHead { answer, head }
+            EditedHead {
+                answer,
+                head: filled,
+            }
         }
         Plan::Refused(x) => {
             let answer = Edit::Refused(x);
