@@ -2,12 +2,12 @@
 use folds::Change;
 use leaves::refusals::Refusal;
 use lent::tables;
+use line_reader::Answer;
 use lines::Took;
 use maps::Checked;
 use maps::Head;
 use maps::Phase;
 use maps::Status;
-use reader::Answer;
 ghost use mathlib.Core.Path.{_≡_};
 ghost use mathlib.Core.List.{List};
 ghost use lib.ListN.{length};
