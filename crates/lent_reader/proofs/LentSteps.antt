@@ -10,8 +10,8 @@ use Rattle.maps.specs.declared.Field.{Field}
 use Rattle.maps.specs.declared.HeaderMap.{HeaderMap}
 use Rattle.maps.specs.declared.Status.{Status}
 use Rattle.maps.proofs.FitLaws.{fit-mono}
-use Rattle.reader.proofs.FitLaws.{Putting}
-use Rattle.reader.proofs.LineSteps.{Held}
+use Rattle.line_reader.proofs.FitLaws.{Putting}
+use Rattle.line_reader.proofs.LineSteps.{Held}
 use Rattle.lent.specs.Table.{fieldAt, tableOf}
 use Rattle.lent.proofs.LentLaws.{fields-at}
 

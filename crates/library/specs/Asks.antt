@@ -11,7 +11,7 @@ use Rattle.maps.specs.Good.{Fit, checkedDone}
 use Rattle.maps.specs.Said.{statusAt}
 use Rattle.maps.specs.declared.Checked.the-variants.{Fine}
 use Rattle.folds.specs.Asks.{FoldReady}
-use Rattle.reader.specs.Lying.{Lying}
+use Rattle.line_reader.specs.Lying.{Lying}
 use Rattle.writes.specs.Written.{pairLine, statusLine}
 use Rattle.lent.specs.Numbers.{soundHead, soundMap}
 use Rattle.library.specs.Says.{Free, Asks, first, second, third, fourth, fifth, sixth, seventh, eighth, ninth, tenth}

@@ -1,8 +1,8 @@
 -- How a reading goes on from a map and its loans to those of later, the piece taken from a place to another. Assumes nothing.
 use mathlib.Core.Path.{_≡_, refl, sym, ap, _∙_}
-use mathlib.Core.Bool.{Bool, true, false}
+use mathlib.Core.Bool.{Bool, true, false, false≢true}
 use mathlib.Core.List.{List}
-use Prim.Native.Nat.{ℕ, _+_, _≤_}
+use Prim.Native.Nat.{ℕ, _+_, _-_, _≤_, _<_}
 use native.Mathlib.Omega.{arith}
 use lib.ListN.{length, drop}
 use Rattle.maps.specs.Good.{Ready}
@@ -116,3 +116,16 @@ feeding-on {p} {b} {s} {b₁} {s₁} {b₂} {s₂} {m} {m₁} {m₂} {at} {at₁
           g .rest ∙
           ap (λ (R : Rules). goOn R g₂ (answering m₂ b₂ s₂ a₂) (drop at₂ p)) same;
     }
+
+-- the measure of a loop of turns: a turn takes a line, or is the last
+abbrev pub one : Bool → ℕ
+one true = 1
+one false = 0
+
+pub turn-less : (n at at′ : ℕ) (going going′ : Bool) → going ≡ true → at ≤ at′ → at′ ≤ n → (going′ ≡ true → at < at′) → (n - at′) + one going′ < (n - at) + one going
+turn-less n at at′ false going′ e h k f = absurd (false≢true e)
+turn-less n at at′ true true e h k f = omega (arith, f refl)
+turn-less n at at′ true false e h k f = omega arith
+
+pub later : {p b s b′ s′ : List ℕ} {m m′ : HeaderMap} {at at′ : ℕ} → Held p m b s at m′ b′ s′ at′ → at ≤ at′
+later h = omega (arith, h .taken, h .counts)

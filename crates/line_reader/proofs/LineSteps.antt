@@ -31,13 +31,13 @@ use Rattle.folds.specs.declared.Change.the-variants.{Nothing, Status as Headed,
 use Rattle.folds.proofs.ListLaws.{take-pasted, drop-pasted, pasted-none}
 use Rattle.line_reader.specs.Reading.{Rules, Gathered, Reading, ruled, lined, closed, fed, finished}
 use Rattle.line_reader.specs.Standing.{rulesOf, answering, readingOf}
-use Rattle.line_reader.specs.Turns.{Able, putIn, headWith, counted, nextLine, headBy, answerBy, goingBy, rulingAt, handling, closing, turned, tookAt, turning, ending}
+use Rattle.line_reader.specs.Turns.{Able, Puts, putIn, headWith, counted, nextLine, headBy, answerBy, goingBy, stopsAt, rulingAt, handling, closing, turned, tookAt, turning, ending}
 use Rattle.line_reader.specs.declared.Answer.{Answer}
 use Rattle.line_reader.specs.declared.Answer.the-variants.{More, Blank, Input, Refused}
 use Rattle.line_reader.specs.declared.Turn.{Turn}
-use Rattle.line_reader.proofs.FitLaws.{Putting, FineC, getD-any, ruled-table}
+use Rattle.line_reader.proofs.FitLaws.{Putting, FineC, ruled-table}
 use Rattle.line_reader.proofs.OctetSteps.{cr-cut, still, onward, by-line, taking-short}
-use Rattle.line_reader.proofs.TurnLaws.{count-long, fine, more-able, read-more, take-more}
+use Rattle.line_reader.proofs.TurnLaws.{count-long, fine, puts, none-puts, read-more, take-more}
 use Rattle.line_reader.proofs.HeldLaws.{Held, held-on, goOn, Feeding}
 
 -- what is written within a loan leaves its length
@@ -54,20 +54,27 @@ pub record Seated (t : List Field) (h : Head) (x : Field) (b s : List ℕ) : Typ
   pub last : x ≡ getD t (h .fields - 1) noField
 
 pub seated : {p b₀ s₀ b s : List ℕ} {m : HeaderMap} {at₀ at : ℕ} (t : List Field) (h : Head) → Held p m b₀ s₀ at₀ (under t h) b s at
-    → (i : ℕ) (d : Field) → i ≡ h .fields - 1 → Seated t h (getD t i d) b s
-seated t h k i d place =
+    → {i : ℕ} → i ≡ h .fields - 1 → Seated t h (getD t i noField) b s
+seated t h k {i} place =
     record {
       facts = k .facts;
       wide = k .wide;
       block = k .block;
       store = k .store;
-      last = rw (← place) (getD-any t i d noField (omega (arith, k .wide, k .facts .few, place)));
+      last = ap (λ (n : ℕ). getD t n noField) place;
     }
 
--- what a turn that gives g is to a table t under the head h
-abbrev Turned : List ℕ → List Field → Head → List ℕ → List ℕ → ℕ → Given Turn → Type 0
-Turned p t h b s at g =
-    Feeding p (under t h) b s at (under (putIn t (g .result .change)) (g .result .head)) (g .block) (g .store) (g .result .taken) (g .result .answer) (g .result .going)
+-- what a turn is to a table t under the head h: a step of the reading, which takes octets if it goes on
+pub record Turned (p : List ℕ) (t : List Field) (h : Head) (b s : List ℕ) (at : ℕ) (r : Turn) (b′ s′ : List ℕ) : Type 0 where
+  pub feeds : Feeding p (under t h) b s at (under (putIn t (r .change)) (r .head)) b′ s′ (r .taken) (r .answer) (r .going)
+  pub further : r .going ≡ true → at < r .taken
+  pub puts : Puts (r .change)
+
+-- and what the end of input is
+pub record Ended (t : List Field) (h : Head) (b s : List ℕ) (r : Turn) (b′ s′ : List ℕ) : Type 0 where
+  pub held : Held [] (under t h) b s 0 (under (putIn t (r .change)) (r .head)) b′ s′ 0
+  pub says : finished (rulesOf (under t h)) (readingOf (under t h) b s) ≡ answering (under (putIn t (r .change)) (r .head)) b′ s′ (r .answer)
+  pub puts : Puts (r .change)
 
 -- the map and the store after a line that rule 4 handles
 abbrev mapBy : List Field → Head → Field → List ℕ → List ℕ → HeaderMap
@@ -301,65 +308,77 @@ module _ {t : List Field} {h : Head} {x : Field} {b s : List ℕ} (w : Seated t 
         ≡ fed (rulesOf (under t h)) (closed (rulesOf (under t h)) (readingOf (under t after) b′ s)) (drop (at + k) p)
     rest-line = rest-more (Line k) refl v ∙ rw (← more-block (Line k) refl v, drop-drop)
 
+    abbrev LineTurned : Given Turn → Type 0
+    LineTurned g = Turned p t h b s at (g .result) (g .block) (g .store)
+
     line-blank : endsBlock (h .quirks) (drop (h .line) (take (h .count + k) b′)) ≡ true
-        → Feeding p (under t h) b s at (under t (nextLine after)) b′ s (at + k) Blank false
+        → LineTurned (record { result = stopsAt (nextLine after) (at + k) Blank; block = b′; store = s })
     unfolding closed
     line-blank e =
         let n = more-held (Line k) refl v in
         record {
-          held = held-on n (held-same next p (at + k) (n .read) (h .count + k) (h .status) (h .awaits) (omega arith) (n .facts .status));
-          on = λ e. absurd (false≢true e);
-          rest =
-              rest-line ∙
-              ap (λ (r : Reading). fed (rulesOf (under t h)) r (drop (at + k) p)) (if-true _ _ e ∙ rw (count-long (able next))) ∙
-              still (rulesOf (under t h)) (answering (under t (nextLine after)) b′ s Blank) refl (drop (at + k) p);
+          feeds =
+              record {
+                held = held-on n (held-same next p (at + k) (n .read) (h .count + k) (h .status) (h .awaits) (omega arith) (n .facts .status));
+                on = λ e. absurd (false≢true e);
+                rest =
+                    rest-line ∙
+                    ap (λ (r : Reading). fed (rulesOf (under t h)) r (drop (at + k) p)) (if-true _ _ e ∙ rw (count-long (able next))) ∙
+                    still (rulesOf (under t h)) (answering (under t (nextLine after)) b′ s Blank) refl (drop (at + k) p);
+              };
+          further = λ e. absurd (false≢true e);
+          puts = none-puts;
         }
 
-    line-on : endsBlock (h .quirks) (drop (h .line) (take (h .count + k) b′)) ≡ false → Turned p t h b s at (handling after x b′ s (at + k) More true)
+    line-on : endsBlock (h .quirks) (drop (h .line) (take (h .count + k) b′)) ≡ false → LineTurned (handling after x b′ s (at + k) More true)
     unfolding closed
     line-on e =
         let n = more-held (Line k) refl v in
+        let some : 0 < k = line-some _ _ _ _ _ (v .is) in
         record {
-          held = held-on n (line-held next p (at + k) (n .read));
-          on = on-by (rulingAt after x b′ s .change);
-          rest =
-              rest-line ∙
-              ap (λ (r : Reading). fed (rulesOf (under t h)) r (drop (at + k) p)) (if-false _ _ e ∙ line-says next More) ∙
-              go-by (rulesOf (under t h)) (mapBy t after x b′ s) b′ (storeBy after x b′ s) (rulingAt after x b′ s .change) (drop (at + k) p);
+          feeds =
+              record {
+                held = held-on n (line-held next p (at + k) (n .read));
+                on = on-by (rulingAt after x b′ s .change);
+                rest =
+                    rest-line ∙
+                    ap (λ (r : Reading). fed (rulesOf (under t h)) r (drop (at + k) p)) (if-false _ _ e ∙ line-says next More) ∙
+                    go-by (rulesOf (under t h)) (mapBy t after x b′ s) b′ (storeBy after x b′ s) (rulingAt after x b′ s .change) (drop (at + k) p);
+              };
+          further = λ e. omega arith;
+          puts = puts (able next);
         }
 
-    line-turned : Turned p t h b s at (closing after x b′ s (at + k))
+    line-turned : LineTurned (closing after x b′ s (at + k))
     unfolding closing
-    line-turned = by-if (Turned p t h b s at) _ _ _ line-blank line-on
-
-  -- a line has octets
-  line-further : Took-is (Line k) → closing (counted h k) x b′ s (at + k) .result .going ≡ true → at < closing (counted h k) x b′ s (at + k) .result .taken
-  unfolding closing
-  line-further v =
-      let some : 0 < k = line-some _ _ _ _ _ (v .is) in
-      by-if (λ (g : Given Turn). g .result .going ≡ true → at < g .result .taken) _ _ _ (λ e f. absurd (false≢true f)) (λ e f. omega arith)
+    line-turned = by-if LineTurned _ _ _ line-blank line-on
 
 module _ {t : List Field} {h : Head} {x : Field} {b s : List ℕ} (w : Seated t h x b s) (p : List ℕ) (at : ℕ) (read : at ≤ length p) where
-  took-turned : (b′ : List ℕ) (took : Took) → Took-is w p at read b′ (taken took) took → Turned p t h b s at (turned h x b′ s at took)
+  took-turned : (b′ : List ℕ) (took : Took) → Took-is w p at read b′ (taken took) took
+      → Turned p t h b s at (turned h x b′ s at took .result) (turned h x b′ s at took .block) (turned h x b′ s at took .store)
   took-turned b′ (Piece k) v =
       record {
-        held = more-held w p at read b′ k (Piece k) refl v;
-        on = λ e. refl;
-        rest = rest-more w p at read b′ k (Piece k) refl v ∙ rw (more-block w p at read b′ k (Piece k) refl v);
+        feeds =
+            record {
+              held = more-held w p at read b′ k (Piece k) refl v;
+              on = λ e. refl;
+              rest = rest-more w p at read b′ k (Piece k) refl v ∙ rw (more-block w p at read b′ k (Piece k) refl v);
+            };
+        further = λ e. absurd (false≢true e);
+        puts = none-puts;
       }
   took-turned b′ (Limit k) v =
       record {
-        held = more-held w p at read b′ k (Limit k) refl v;
-        on = λ e. absurd (false≢true e);
-        rest = rest-more w p at read b′ k (Limit k) refl v ∙ rw (more-block w p at read b′ k (Limit k) refl v);
+        feeds =
+            record {
+              held = more-held w p at read b′ k (Limit k) refl v;
+              on = λ e. absurd (false≢true e);
+              rest = rest-more w p at read b′ k (Limit k) refl v ∙ rw (more-block w p at read b′ k (Limit k) refl v);
+            };
+        further = λ e. absurd (false≢true e);
+        puts = none-puts;
       }
   took-turned b′ (Line k) v = line-turned w p at read b′ k v
-
-  took-further : (b′ : List ℕ) (took : Took) → Took-is w p at read b′ (taken took) took
-      → turned h x b′ s at took .result .going ≡ true → at < turned h x b′ s at took .result .taken
-  took-further b′ (Piece k) v e = absurd (false≢true e)
-  took-further b′ (Limit k) v e = absurd (false≢true e)
-  took-further b′ (Line k) v e = line-further w p at read b′ k v e
 
   abbrev filled : List ℕ
   filled = pasted b (h .count) (take (taken (tookAt h b p at)) (drop at p))
@@ -369,26 +388,11 @@ module _ {t : List Field} {h : Head} {x : Field} {b s : List ℕ} (w : Seated t 
       let q = taking-short (h .quirks) (crBefore b (h .line) (h .count)) (h .limit - h .count) (drop at p) in
       record { is = refl; within = q .1; fits = q .0; wrote = refl }
 
-  module _ {r : Turn} {b′ s′ : List ℕ} (i : Is (turning h x b s p at) r b′ s′) where
-    -- a turn is a step of the reading
-    pub turn-feeds : Feeding p (under t h) b s at (under (putIn t (r .change)) (r .head)) b′ s′ (r .taken) (r .answer) (r .going)
-    unfolding turning
-    turn-feeds = rw (i .result, i .block, i .store) (took-turned filled (tookAt h b p at) takes)
-
-    -- and takes octets if the reading goes on
-    pub turn-further : r .going ≡ true → at < r .taken
-    unfolding turning
-    turn-further = rw (i .result) (took-further filled (tookAt h b p at) takes)
-
--- what the end of input makes of a reading
-pub record Ended (t : List Field) (h : Head) (b s : List ℕ) (r : Turn) (b′ s′ : List ℕ) : Type 0 where
-  pub held : Held [] (under t h) b s 0 (under (putIn t (r .change)) (r .head)) b′ s′ 0
-  pub says : finished (rulesOf (under t h)) (readingOf (under t h) b s) ≡ answering (under (putIn t (r .change)) (r .head)) b′ s′ (r .answer)
+  pub turn-is : {r : Turn} {b′ s′ : List ℕ} → Is (turning h x b s p at) r b′ s′ → Turned p t h b s at r b′ s′
+  unfolding turning
+  turn-is i = rw (i .result, i .block, i .store) (took-turned filled (tookAt h b p at) takes)
 
 module _ {t : List Field} {h : Head} {x : Field} {b s : List ℕ} (w : Seated t h x b s) where
-  abbrev Ends : Given Turn → Type 0
-  Ends g = Ended t h b s (g .result) (g .block) (g .store)
-
   finish-by : ltb (h .line) (h .count) ≡ true → finished (rulesOf (under t h)) (readingOf (under t h) b s)
       ≡ lined (readingOf (under t h) b s) Input (ruled (rulesOf (under t h)) (readingOf (under t h) b s) .new) (ruled (rulesOf (under t h)) (readingOf (under t h) b s) .change)
   unfolding finished
@@ -398,11 +402,20 @@ module _ {t : List Field} {h : Head} {x : Field} {b s : List ℕ} (w : Seated t 
   unfolding finished
   finish-none e = if-false _ _ refl ∙ if-false _ _ (rw (count-long (able w)) e)
 
-  ending-ends : Ends (ending h x b s)
-  unfolding ending
-  ending-ends =
-      by-if Ends _ _ _ (λ e. record { held = line-held w [] 0 (omega arith); says = finish-by e ∙ line-says w Input })
-      (λ e. record { held = held-same w [] 0 (omega arith) (h .line) (h .status) (h .awaits) (w .facts .line) (w .facts .status); says = finish-none e })
+  abbrev Ends : Given Turn → Type 0
+  Ends g = Ended t h b s (g .result) (g .block) (g .store)
 
-  pub turn-ends : {r : Turn} {b′ s′ : List ℕ} → Is (ending h x b s) r b′ s′ → Ended t h b s r b′ s′
-  turn-ends i = rw (i .result, i .block, i .store) ending-ends
+  left-ends : ltb (h .line) (h .count) ≡ true → Ends (handling h x b s 0 Input false)
+  left-ends e = record { held = line-held w [] 0 (omega arith); says = finish-by e ∙ line-says w Input; puts = puts (able w) }
+
+  none-ends : ltb (h .line) (h .count) ≡ false → Ends (record { result = stopsAt h 0 Input; block = b; store = s })
+  none-ends e =
+      record {
+        held = held-same w [] 0 (omega arith) (h .line) (h .status) (h .awaits) (w .facts .line) (w .facts .status);
+        says = finish-none e;
+        puts = none-puts;
+      }
+
+  pub end-is : {r : Turn} {b′ s′ : List ℕ} → Is (ending h x b s) r b′ s′ → Ended t h b s r b′ s′
+  unfolding ending
+  end-is i = rw (i .result, i .block, i .store) (by-if Ends _ _ _ left-ends none-ends)

@@ -15,7 +15,9 @@ use Rattle.leaves.proofs.PasteLaws.{drop-take}
 use Rattle.lines.specs.Line.{taken, crBefore, Takes}
 use Rattle.lines.specs.declared.Took.{Took}
 use Rattle.lines.specs.declared.Took.the-variants.{Line}
+use Rattle.maps.specs.Good.{Fit, in-block}
 use Rattle.maps.specs.Maps.{Is}
+use Rattle.maps.specs.Places.{noField}
 use Rattle.maps.specs.declared.Field.{Field}
 use Rattle.maps.specs.declared.Head.{Head}
 use Rattle.maps.proofs.FitLaws.{fit-mono}
@@ -25,18 +27,24 @@ use Rattle.folds.specs.declared.Change.{Change}
 use Rattle.folds.specs.declared.Change.the-variants.{Nothing, Status as Headed, Put, Refused as Stops}
 use Rattle.folds.proofs.ListLaws.{take-pasted}
 use Rattle.line_reader.specs.Lying.{Lying}
-use Rattle.line_reader.specs.Turns.{Able, slotOf, counted, nextLine, turnBy, stopsAt, rulingAt, handling, closing, turned, turning, ending}
+use Rattle.line_reader.specs.Turns.{Able, Puts, slotOf, counted, nextLine, turnBy, stopsAt, rulingAt, handling, closing, turned, turning, ending}
 use Rattle.line_reader.specs.declared.Answer.{Answer}
 use Rattle.line_reader.specs.declared.Answer.the-variants.{More, Blank, Input}
 use Rattle.line_reader.specs.declared.Turn.{Turn}
 use Rattle.line_reader.proofs.FitLaws.{FineC, rule4-fine}
 
+none-fits : Fit 65536 65536 noField
+none-fits = record { key = in-block 0 0 (omega arith) (omega arith); value = in-block 0 0 (omega arith) (omega arith) }
+
 -- a change within its limits puts its field into the table
-few-slot : (b mark fields room : ℕ) (new : List ℕ) (c : Change) → FineC b mark fields room new c → slotOf c < 256
-few-slot b mark fields room new Nothing f = omega arith
-few-slot b mark fields room new (Headed p) f = omega arith
-few-slot b mark fields room new (Put slot x to) f = f .few
-few-slot b mark fields room new (Stops e) f = omega arith
+fine-puts : (b mark fields room : ℕ) (new : List ℕ) (c : Change) → b ≤ 65536 → room ≤ 65536 → FineC b mark fields room new c → Puts c
+fine-puts b mark fields room new Nothing h k f = record { slot = omega arith; field = none-fits }
+fine-puts b mark fields room new (Headed p) h k f = record { slot = omega arith; field = none-fits }
+fine-puts b mark fields room new (Put slot x to) h k f = record { slot = f .few; field = fit-mono h (omega (arith, f .fits)) (f .fit) }
+fine-puts b mark fields room new (Stops e) h k f = record { slot = omega arith; field = none-fits }
+
+pub none-puts : Puts Nothing
+none-puts = record { slot = omega arith; field = none-fits }
 
 module _ {h : Head} {last : Field} {b s : List ℕ} (able : Able h last b s) where
   pub count-long : length (take (h .count) b) ≡ h .count
@@ -60,8 +68,11 @@ module _ {h : Head} {last : Field} {b s : List ℕ} (able : Able h last b s) whe
       rule4-fine (h .count) (h .mark) (h .fields) (h .room) (able .few) (able .mark) (take (h .count) b) (take (h .mark) s) (h .line) (h .awaits) last
       (omega (arith, count-long, able .line)) (omega (arith, count-long)) (able .fits) .is
 
+  pub puts : Puts (rulingAt h last b s .change)
+  puts = fine-puts _ _ _ _ _ (rulingAt h last b s .change) (omega (arith, able .count, able .small)) (able .most) fine
+
   pub slot-few : (c : Change) → c ≡ rulingAt h last b s .change → slotOf c < 256
-  slot-few c e = rw e (few-slot _ _ _ _ _ (rulingAt h last b s .change) fine)
+  slot-few c e = rw e (puts .slot)
 
   -- a line that rule 4 handled
   pub is-handled : {s′ : List ℕ} {c : Change} {r : Turn} (taken : ℕ) (a : Answer) (going : Bool)

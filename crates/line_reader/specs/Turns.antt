@@ -12,6 +12,7 @@ use Rattle.lines.specs.declared.Took.{Took}
 use Rattle.lines.specs.declared.Took.the-variants.{Line, More as Piece, Full as Limit}
 use Rattle.maps.specs.Good.{Fit}
 use Rattle.maps.specs.Maps.{Given}
+use Rattle.maps.specs.Places.{noField}
 use Rattle.maps.specs.declared.Field.{Field}
 use Rattle.maps.specs.declared.Head.{Head}
 use Rattle.maps.specs.declared.Status.{Status}
@@ -48,6 +49,18 @@ slotOf Nothing = 0
 slotOf (Headed p) = 0
 slotOf (Put slot x mark) = slot
 slotOf (Stops e) = 0
+
+-- the field that a change puts, an empty one if it puts none
+abbrev pub fieldOf : Change → Field
+fieldOf Nothing = noField
+fieldOf (Headed p) = noField
+fieldOf (Put slot x mark) = x
+fieldOf (Stops e) = noField
+
+-- what a change puts has a slot in the table, and places of the largest rooms
+pub record Puts (c : Change) : Type 0 where
+  pub slot : slotOf c < 256
+  pub field : Fit 65536 65536 (fieldOf c)
 
 -- a head with other counts, status and flag
 abbrev pub headWith : Head → ℕ → ℕ → ℕ → ℕ → Status → Bool → Head

@@ -12,7 +12,7 @@ use Rattle.lent.specs.Table.{tableOf, mapIn}
 use Rattle.lent.proofs.LentLaws.{fields-length, fields-set}
 use Rattle.lines.proofs.LineLaws.{line-some}
 use Rattle.reader.proofs.FeedLaws.{line-inside, line-whole, line-at, Feeding, feed-start, feed-more, feed-full, held-line, feed-blank, feed-nothing, feed-head, feed-put, feed-stop, feed-end}
-use Rattle.reader.proofs.LineSteps.{fold-ready, puts, is-after}
+use Rattle.line_reader.proofs.LineSteps.{fold-ready, puts, is-after}
 use Rattle.lent_reader.proofs.LentSteps.{last-field, put-fit}
 use Rattle.lent_reader.proofs.feed_lines.Statement.{statement}
 use Rattle.lent_reader.proofs.feed_lines.Tie as tie

@@ -6,9 +6,9 @@ use mathlib.Core.List.{[]}
 use Rattle.maps.specs.Places.{noField}
 use Rattle.lent.specs.Table.{mapIn}
 use Rattle.lent.proofs.LentLaws.{fields-length, fields-set}
-use Rattle.reader.specs.declared.Answer.the-variants.{Input, Refused}
-use Rattle.reader.proofs.FinishLaws.{finish-none, finish-ends}
-use Rattle.reader.proofs.LineSteps.{held-start, fold-ready, puts, after-nothing, after-head, after-put, after-stop, is-after}
+use Rattle.line_reader.specs.declared.Answer.the-variants.{Input, Refused}
+use Rattle.reader.proofs.CallLaws.{finish-none, finish-ends}
+use Rattle.line_reader.proofs.LineSteps.{held-start, fold-ready, puts, after-nothing, after-head, after-put, after-stop, is-after}
 use Rattle.lent_reader.proofs.LentSteps.{last-field, put-fit}
 use Rattle.lent_reader.proofs.finish_line.Statement.{statement}
 use Rattle.lent_reader.proofs.finish_line.Tie as tie
