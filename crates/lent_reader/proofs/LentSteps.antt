@@ -1,10 +1,8 @@
 -- The last field of a lent table. Assumes nothing.
-use mathlib.Core.Path.{_≡_, sym, ap, _∙_}
+use mathlib.Core.Path.{_≡_}
 use mathlib.Core.List.{List}
 use Prim.Native.Nat.{ℕ, _-_, _<_}
 use native.Mathlib.Omega.{arith}
-use lib.ListN.{getD}
-use Rattle.maps.specs.Places.{noField}
 use Rattle.maps.specs.declared.Field.{Field}
 use Rattle.maps.specs.declared.Head.{Head}
 use Rattle.maps.specs.declared.HeaderMap.{HeaderMap}

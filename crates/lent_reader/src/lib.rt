@@ -48,24 +48,24 @@ fn feed_lines(h: Head, t: &mut [u32], block: &mut [u8], store: &mut [u8], piece:
     requires { ⌜ (length (now t) ≡ 1024) × Ready (mapIn (now t) h) (now block) (now store) ⌝ }
     ensures { λ r. ⌜ Is (fedFrom (mapIn (now (t .entry)) h) (now (block .entry)) (now (store .entry)) (now (piece .entry))) (fedIn (now (t .exit)) r) (now (block .exit)) (now (store .exit)) ⌝ }
 {
-    let mut head = h;
+    let mut now = h;
     let mut at = 0;
     let mut answer = Answer::More;
     let mut going = true;
     while going {
-        let slot = line_reader::last_of(head.fields);
+        let slot = line_reader::last_of(now.fields);
         let last = tables::field_at(t, slot);
-        let turn = line_reader::take_turn(head, last, block, store, piece, at);
+        let turn = line_reader::take_turn(now, last, block, store, piece, at);
         let change = turn.change;
         put_change(t, change);
-        head = turn.head;
+        now = turn.head;
         at = turn.taken;
         answer = turn.answer;
         going = turn.going;
     }
-    let left = reader::head_after(answer, head);
+    let head = reader::head_after(answer, now);
     FedHead {
-        head: left,
+        head,
         taken: at,
         answer,
     }
@@ -99,10 +99,10 @@ fn finish_line(h: Head, t: &mut [u32], block: &[u8], store: &mut [u8]) -> FedHea
     let change = turn.change;
     put_change(t, change);
     let answer = turn.answer;
-    let head = turn.head;
-    let left = reader::head_after(answer, head);
+    let left = turn.head;
+    let head = reader::head_after(answer, left);
     FedHead {
-        head: left,
+        head,
         taken: 0,
         answer,
     }

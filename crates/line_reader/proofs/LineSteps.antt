@@ -1,5 +1,5 @@
 -- What a turn makes of a reading, for each table whose last field it was given. Assumes nothing.
-use mathlib.Core.Path.{_≡_, refl, sym, ap, _∙_}
+use mathlib.Core.Path.{_≡_, refl, ap, _∙_}
 use mathlib.Core.Bool.{Bool, true, false, false≢true}
 use mathlib.Core.List.{List, [], _∷_, _++_}
 use Prim.Native.Nat.{ℕ, _+_, _-_, _≤_, _<_}
@@ -14,7 +14,7 @@ use Rattle.lines.specs.Line.{taken, crBefore, Takes}
 use Rattle.lines.specs.declared.Took.{Took}
 use Rattle.lines.specs.declared.Took.the-variants.{Line, More as Piece, Full as Limit}
 use Rattle.lines.proofs.LineLaws.{line-some}
-use Rattle.maps.specs.Good.{Fit, FitAll, FitStatus, fit-at}
+use Rattle.maps.specs.Good.{Fit, FitStatus, fit-at}
 use Rattle.maps.specs.Heads.{under}
 use Rattle.maps.specs.Maps.{Given, Is}
 use Rattle.maps.specs.Places.{noField}

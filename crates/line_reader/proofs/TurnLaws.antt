@@ -8,13 +8,10 @@ use borrow.Author.Tests.{eqb-true, lt-ltb, le-ltb}
 use lib.Dec.{eqb}
 use lib.ListN.{length, take, drop, length-drop}
 use lib.Seq.{drop-at, length-take-le}
-use Rattle.leaves.specs.Octets.{before}
-use Rattle.leaves.specs.Paste.{pasted}
 use Rattle.leaves.proofs.ChoiceLaws.{if-true, if-false}
 use Rattle.leaves.proofs.PasteLaws.{drop-take}
 use Rattle.lines.specs.Line.{taken, crBefore, Takes}
 use Rattle.lines.specs.declared.Took.{Took}
-use Rattle.lines.specs.declared.Took.the-variants.{Line}
 use Rattle.maps.specs.Good.{Fit, in-block}
 use Rattle.maps.specs.Maps.{Is}
 use Rattle.maps.specs.Places.{noField}

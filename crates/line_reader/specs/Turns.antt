@@ -106,13 +106,16 @@ goingBy going (Headed p) = going
 goingBy going (Put slot x mark) = going
 goingBy going (Stops e) = false
 
+abbrev pub turnOf : Head → Change → ℕ → Answer → Bool → Turn
+turnOf h c taken a going = record { head = h; change = c; taken = taken; answer = a; going = going }
+
 -- a line's change, with the answer and the way on if nothing was refused
 abbrev pub turnBy : Head → Change → ℕ → Answer → Bool → Turn
-turnBy h c taken a going = record { head = headBy h c; change = c; taken = taken; answer = answerBy a c; going = goingBy going c }
+turnBy h c taken a going = turnOf (headBy h c) c taken (answerBy a c) (goingBy going c)
 
 -- the reading stops
 abbrev pub stopsAt : Head → ℕ → Answer → Turn
-stopsAt h taken a = record { head = h; change = Nothing; taken = taken; answer = a; going = false }
+stopsAt h taken a = turnOf h Nothing taken a false
 
 -- what rule 4 says of the line that ends at a head's count
 abbrev pub rulingAt : Head → Field → List ℕ → List ℕ → Ruling

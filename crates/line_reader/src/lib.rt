@@ -11,7 +11,7 @@ ghost use lib.ListN.{length, take, drop};
 ghost use Rattle.leaves.specs.Octets.{before};
 ghost use Rattle.maps.specs.Maps.{Is};
 ghost use Rattle.line_reader.specs.Lying.{Lying};
-ghost use Rattle.line_reader.specs.Turns.{Able, slotOf, turnBy, closing, turning, ending};
+ghost use Rattle.line_reader.specs.Turns.{Able, slotOf, turnOf, turnBy, closing, turning, ending};
 
 // What a piece, or the end of input, did: more is wanted, a blank line or the end of input closed the reading, or a refusal.
 pub enum Answer {
@@ -50,59 +50,48 @@ pub fn colon_of(piece: &[u8], from: usize, k: usize, line: &[u8], whole: bool) -
     lines::find_octet(line, 0, 58)
 }
 
+fn turn_of(head: Head, change: Change, taken: usize, answer: Answer, going: bool) -> Turn
+    ensures { λ r. ⌜ r ≡ turnOf head change taken answer going ⌝ }
+{
+    Turn {
+        head,
+        change,
+        taken,
+        answer,
+        going,
+    }
+}
+
 // What a change makes of a head whose line it handles, with the answer if nothing was refused.
 fn turn_by(h: Head, change: Change, taken: usize, answer: Answer, going: bool) -> Turn
     requires { ⌜ slotOf change < 256 ⌝ }
     ensures { λ r. ⌜ r ≡ turnBy h change taken answer going ⌝ }
 {
+    let line = h.count;
     match change {
         Change::Nothing => {
-            let head = Head { line: h.count, ..h };
-            Turn {
-                head,
-                change,
-                taken,
-                answer,
-                going,
-            }
+            let head = Head { line, ..h };
+            turn_of(head, change, taken, answer, going)
         }
         Change::Status(p) => {
             let head = Head {
-                line: h.count,
+                line,
                 status: Status::At(p),
                 awaits: false,
                 ..h
             };
-            Turn {
-                head,
-                change,
-                taken,
-                answer,
-                going,
-            }
+            turn_of(head, change, taken, answer, going)
         }
         Change::Put(slot, x, to) => {
             let head = Head {
-                line: h.count,
+                line,
                 mark: to,
                 fields: slot + 1,
                 ..h
             };
-            Turn {
-                head,
-                change,
-                taken,
-                answer,
-                going,
-            }
+            turn_of(head, change, taken, answer, going)
         }
-        Change::Refused(e) => Turn {
-            head: h,
-            change,
-            taken,
-            answer: Answer::Refused(e),
-            going: false,
-        },
+        Change::Refused(e) => turn_of(h, change, taken, Answer::Refused(e), false),
     }
 }
 
@@ -126,13 +115,7 @@ fn close_line(
     let line = &block[start..count];
     if folds::ends_block(line, h.quirks) {
         let head = Head { line: count, ..h };
-        return Turn {
-            head,
-            change: Change::Nothing,
-            taken,
-            answer: Answer::Blank,
-            going: false,
-        };
+        return turn_of(head, Change::Nothing, taken, Answer::Blank, false);
     }
     let c = colon_of(piece, from, k, line, whole);
     let change = folds::line_change(
@@ -170,13 +153,7 @@ pub fn take_turn(
                 count: count + k,
                 ..h
             };
-            Turn {
-                head,
-                change: Change::Nothing,
-                taken: at + k,
-                answer: Answer::More,
-                going: false,
-            }
+            turn_of(head, Change::Nothing, at + k, Answer::More, false)
         }
         Took::Full(k) => {
             let head = Head {
@@ -184,13 +161,7 @@ pub fn take_turn(
                 ..h
             };
             let answer = Answer::Refused(Refusal::BlockFull);
-            Turn {
-                head,
-                change: Change::Nothing,
-                taken: at + k,
-                answer,
-                going: false,
-            }
+            turn_of(head, Change::Nothing, at + k, answer, false)
         }
         Took::Line(k) => {
             let head = Head {
@@ -223,11 +194,5 @@ pub fn last_turn(h: Head, last: Field, block: &[u8], store: &mut [u8]) -> Turn
         );
         return turn_by(h, change, 0, Answer::Input, false);
     }
-    Turn {
-        head: h,
-        change: Change::Nothing,
-        taken: 0,
-        answer: Answer::Input,
-        going: false,
-    }
+    turn_of(h, Change::Nothing, 0, Answer::Input, false)
 }

@@ -200,9 +200,9 @@ fn finish_line(m: HeaderMap, block: &[u8], store: &mut [u8]) -> Fed
     let turn = line_reader::last_turn(h, last, block, store);
     let change = turn.change;
     let spot = spot_of(change, slot, last);
-    let to = spot.slot;
-    let x = spot.field;
-    t[to] = x;
+    let place = spot.slot;
+    let field = spot.field;
+    t[place] = field;
     let answer = turn.answer;
     let left = turn.head;
     let head = head_after(answer, left);

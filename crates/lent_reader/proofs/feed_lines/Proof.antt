@@ -2,7 +2,7 @@
 use borrow.Author.Needs.{needs}
 use native.Mathlib.Omega.{arith}
 use mathlib.Core.Path.{_≡_, sym, _∙_}
-use Prim.Native.Nat.{ℕ, _+_, _-_}
+use Prim.Native.Nat.{_+_, _-_}
 use lib.ListN.{length}
 use Rattle.line_reader.proofs.HeldLaws.{Feeding, feeding-start, feeding-on, later, one, turn-less}
 use Rattle.line_reader.proofs.LineSteps.{able, turn-is}
@@ -34,24 +34,24 @@ field-at-requires c κs =
 take-turn-requires : tie.Need-take-turn-requires Inv-loop μ-loop
 take-turn-requires c κs =
     let l = c .before .before .before .before .before .before .loop in
-    (able (seated-in (l .t) (l .head) (l .inv .1 .held) (c .before .before .before .before .last-of .ensures) (c .before .before .field-at .ensures)), l .inv .1 .held .read)
+    (able (seated-in (l .t) (l .now) (l .inv .1 .held) (c .before .before .before .before .last-of .ensures) (c .before .before .field-at .ensures)), l .inv .1 .held .read)
 
 put-change-requires : tie.Need-put-change-requires Inv-loop μ-loop
 put-change-requires c κs =
     let l = c .before .before .before .before .before .before .before .before .before .before .before .before .loop in
-    let v = turn-is (seated-in (l .t) (l .head) (l .inv .1 .held) (c .before .before .before .before .before .before .before .before .before .before .last-of .ensures) (c .before .before .before .before .before .before .before .before .field-at .ensures)) _ (l .at) (l .inv .1 .held .read) (c .before .before .before .before .before .take-turn .ensures) in
+    let v = turn-is (seated-in (l .t) (l .now) (l .inv .1 .held) (c .before .before .before .before .before .before .before .before .before .before .last-of .ensures) (c .before .before .before .before .before .before .before .before .field-at .ensures)) _ (l .at) (l .inv .1 .held .read) (c .before .before .before .before .before .take-turn .ensures) in
     (l .inv .0, v .puts)
 
 loop-less : tie.Need-loop-less Inv-loop μ-loop
 loop-less c =
     let l = c .before .before .before .before .before .before .before .before .before .before .before .before .before .before .before .before .loop in
-    let v = turn-is (seated-in (l .t) (l .head) (l .inv .1 .held) (c .before .before .before .before .before .before .before .before .before .before .before .before .before .before .last-of .ensures) (c .before .before .before .before .before .before .before .before .before .before .before .before .field-at .ensures)) _ (l .at) (l .inv .1 .held .read) (c .before .before .before .before .before .before .before .before .before .take-turn .ensures) in
+    let v = turn-is (seated-in (l .t) (l .now) (l .inv .1 .held) (c .before .before .before .before .before .before .before .before .before .before .before .before .before .before .last-of .ensures) (c .before .before .before .before .before .before .before .before .before .before .before .before .field-at .ensures)) _ (l .at) (l .inv .1 .held .read) (c .before .before .before .before .before .before .before .before .before .take-turn .ensures) in
     turn-less _ (l .at) _ _ _ (c .before .before .before .before .before .before .before .before .before .before .before .before .before .before .before .loop-test .taken) (later (v .feeds .held)) (v .feeds .held .read) (v .further)
 
 loop-again : tie.Need-loop-again Inv-loop μ-loop
 loop-again c =
     let l = c .before .before .before .before .before .before .before .before .before .before .before .before .before .before .before .before .loop in
-    let v = turn-is (seated-in (l .t) (l .head) (l .inv .1 .held) (c .before .before .before .before .before .before .before .before .before .before .before .before .before .before .last-of .ensures) (c .before .before .before .before .before .before .before .before .before .before .before .before .field-at .ensures)) _ (l .at) (l .inv .1 .held .read) (c .before .before .before .before .before .before .before .before .before .take-turn .ensures) in
+    let v = turn-is (seated-in (l .t) (l .now) (l .inv .1 .held) (c .before .before .before .before .before .before .before .before .before .before .before .before .before .before .last-of .ensures) (c .before .before .before .before .before .before .before .before .before .before .before .before .field-at .ensures)) _ (l .at) (l .inv .1 .held .read) (c .before .before .before .before .before .before .before .before .before .take-turn .ensures) in
     (c .before .before .before .put-change .kept .0 ∙ l .inv .0, rw (c .before .before .before .put-change .ensures) (feeding-on (l .inv .1) (c .before .before .before .before .before .before .before .before .before .before .before .before .before .before .before .loop-test .taken) (v .feeds)))
 
 head-after-requires : tie.Need-head-after-requires Inv-loop μ-loop
@@ -69,7 +69,7 @@ same-length-3 c = c .before .before .loop .inv .1 .held .long-s
 returns : tie.Need-returns Inv-loop μ-loop
 returns c =
     let l = c .before .before .loop in
-    rw (c .head-after .ensures) (feed-end (tableOf (l .t)) (l .head) (l .inv .1) (c .before .loop-test .left))
+    rw (c .head-after .ensures) (feed-end (tableOf (l .t)) (l .now) (l .inv .1) (c .before .loop-test .left))
 
 pub feed-lines-spec : {M : Type 1} → statement M
 feed-lines-spec =

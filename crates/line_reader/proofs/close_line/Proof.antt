@@ -21,10 +21,13 @@ part-line-end c = search needs
 ends-block-requires : tie.Need-ends-block-requires
 ends-block-requires c κs = search needs
 
+turn-of-requires : tie.Need-turn-of-requires
+turn-of-requires c κs = search needs
+
 returns : tie.Need-returns
 returns c =
-    rw (closing-blank (c .before .before .before .before .before .before .pre .0) _ (sym (c .before .ends-block .ensures) ∙ c .if1 .taken))
-    (record { result = refl; block = refl; store = refl })
+    rw (closing-blank (c .before .before .before .before .before .before .before .pre .0) _ (sym (c .before .before .ends-block .ensures) ∙ c .before .if1 .taken))
+    (record { result = c .turn-of .ensures; block = refl; store = refl })
 
 colon-of-requires : tie.Need-colon-of-requires
 colon-of-requires c κs = search needs
@@ -55,6 +58,7 @@ close-line-spec =
     part-line-start
     part-line-end
     ends-block-requires
+    turn-of-requires
     returns
     colon-of-requires
     line-change-requires

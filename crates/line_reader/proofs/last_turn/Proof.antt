@@ -19,9 +19,12 @@ returns c =
     let able = c .before .before .before .before .before .before .before .before .pre in
     rw (ending-left able (c .before .before .before .before .before .if1 .taken)) (is-handled able _ _ _ (c .before .before .before .rule-four .ensures) (c .turn-by .ensures))
 
+turn-of-requires : tie.Need-turn-of-requires
+turn-of-requires c κs = search needs
+
 returns-2 : tie.Need-returns-2
-returns-2 c = rw (ending-none (c .before .before .before .pre) (c .if1 .left)) (record { result = refl; block = refl; store = refl })
+returns-2 c = rw (ending-none (c .before .before .before .before .pre) (c .before .if1 .left)) (record { result = c .turn-of .ensures; block = refl; store = refl })
 
 pub last-turn-spec : {M : Type 1} → statement M
 last-turn-spec =
-    tie.close (tie.spec rule-four-requires turn-by-requires same-length returns returns-2)
+    tie.close (tie.spec rule-four-requires turn-by-requires same-length returns turn-of-requires returns-2)

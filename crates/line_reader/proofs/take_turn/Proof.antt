@@ -12,32 +12,38 @@ take-line-requires c κs = search needs
 enum-known-took : tie.Need-enum-known-took
 enum-known-took c = search needs
 
-add-t19 : tie.Need-add-t19
-add-t19 c =
+add-turn-of : tie.Need-add-turn-of
+add-turn-of c =
     let z = c .before .before .before .before .before .before .before .before .before .before in
     let t = rw (c .before .took .given .1) at (c .before .before .before .before .before .take-line .ensures) in
     omega (arith, t .fits, z .pre .0 .count, z .pre .0 .small)
 
-add-t19-2 : tie.Need-add-t19-2
-add-t19-2 c =
+add-turn-of-2 : tie.Need-add-turn-of-2
+add-turn-of-2 c =
     let z = c .before .before .before .before .before .before .before .before .before .before in
     let t = rw (c .before .took .given .1) at (c .before .before .before .before .before .take-line .ensures) in
     omega (arith, read-more (z .pre .0) (z .args .piece .now) (z .args .at) t (z .pre .1))
+
+turn-of-requires : tie.Need-turn-of-requires
+turn-of-requires c κs = search needs
 
 enum-known-took-2 : tie.Need-enum-known-took-2
 enum-known-took-2 c = search needs
 
-add-t32 : tie.Need-add-t32
-add-t32 c =
+add-turn-of-3 : tie.Need-add-turn-of-3
+add-turn-of-3 c =
     let z = c .before .before .before .before .before .before .before .before .before .before in
     let t = rw (c .before .took2 .given .1) at (c .before .before .before .before .before .take-line .ensures) in
     omega (arith, t .fits, z .pre .0 .count, z .pre .0 .small)
 
-add-t32-2 : tie.Need-add-t32-2
-add-t32-2 c =
+add-turn-of-4 : tie.Need-add-turn-of-4
+add-turn-of-4 c =
     let z = c .before .before .before .before .before .before .before .before .before .before in
     let t = rw (c .before .took2 .given .1) at (c .before .before .before .before .before .take-line .ensures) in
     omega (arith, read-more (z .pre .0) (z .args .piece .now) (z .args .at) t (z .pre .1))
+
+turn-of-requires-2 : tie.Need-turn-of-requires-2
+turn-of-requires-2 c κs = search needs
 
 enum-known-took-3 : tie.Need-enum-known-took-3
 enum-known-took-3 c = search needs
@@ -60,18 +66,18 @@ same-length c = search needs
 
 returns : tie.Need-returns
 returns c =
-    let z = c .before .before .before .before .before .before .before .before .before .before in
-    let t = rw (c .before .took .given .1) at (c .before .before .before .before .before .take-line .ensures) in
-    rw (turning-by (z .pre .0) (z .args .piece .now) (z .args .at) t) (record { result = refl; block = refl; store = refl })
+    let z = c .before .before .before .before .before .before .before .before .before .before .before in
+    let t = rw (c .before .before .took .given .1) at (c .before .before .before .before .before .before .take-line .ensures) in
+    rw (turning-by (z .pre .0) (z .args .piece .now) (z .args .at) t) (record { result = c .turn-of .ensures; block = refl; store = refl })
 
 same-length-2 : tie.Need-same-length-2
 same-length-2 c = search needs
 
 returns-2 : tie.Need-returns-2
 returns-2 c =
-    let z = c .before .before .before .before .before .before .before .before .before .before in
-    let t = rw (c .before .took2 .given .1) at (c .before .before .before .before .before .take-line .ensures) in
-    rw (turning-by (z .pre .0) (z .args .piece .now) (z .args .at) t) (record { result = refl; block = refl; store = refl })
+    let z = c .before .before .before .before .before .before .before .before .before .before .before in
+    let t = rw (c .before .before .took2 .given .1) at (c .before .before .before .before .before .before .take-line .ensures) in
+    rw (turning-by (z .pre .0) (z .args .piece .now) (z .args .at) t) (record { result = c .turn-of2 .ensures; block = refl; store = refl })
 
 same-length-3 : tie.Need-same-length-3
 same-length-3 c = search needs
@@ -91,11 +97,13 @@ take-turn-spec =
     (tie.spec
     take-line-requires
     enum-known-took
-    add-t19
-    add-t19-2
+    add-turn-of
+    add-turn-of-2
+    turn-of-requires
     enum-known-took-2
-    add-t32
-    add-t32-2
+    add-turn-of-3
+    add-turn-of-4
+    turn-of-requires-2
     enum-known-took-3
     add-t45
     close-line-requires
