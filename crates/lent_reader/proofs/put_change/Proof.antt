@@ -1,5 +1,6 @@
 -- `lent_reader::put_change` meets its contract. Assumes nothing.
 use borrow.Author.Needs.{needs}
+use native.Mathlib.Omega.{arith}
 use mathlib.Core.Path.{ap, _∙_}
 use Rattle.lent.specs.Table.{tableOf}
 use Rattle.lent.proofs.LentLaws.{fields-set}
@@ -19,7 +20,7 @@ put-field-requires : tie.Need-put-field-requires
 put-field-requires c κs =
     let z = c .before .before .before .before .before .pre in
     let q = rw (c .before .before .change2 .given .1) at (z .1) in
-    (q .slot, z .0, q .field)
+    (omega (arith, q .slot), z .0, q .field)
 
 enum-known-change-3 : tie.Need-enum-known-change-3
 enum-known-change-3 c = search needs
