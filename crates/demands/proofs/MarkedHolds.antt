@@ -12,7 +12,7 @@ use Rattle.leaves.specs.Trim.{trimEnd, trimStart, leading}
 use Rattle.maps.specs.Places.{lastOf}
 use Rattle.maps.specs.Good.{goodFields, good, checked}
 use Rattle.folds.specs.Rule.{endsBlock, grown, regrown, folded, split, rule4}
-use Rattle.reader.specs.Reading.{ruled, closed, put, step, fed, finished}
+use Rattle.line_reader.specs.Reading.{ruled, closed, put, step, fed, finished}
 use Rattle.reader.specs.Calls.{fedFrom, finishedFrom, feeding, finishing, clearing, checkedRooms, beginning}
 use Rattle.edits.specs.Fields.{keeps, replaced}
 use Rattle.edits.specs.Edits.{changing, setting, appending}

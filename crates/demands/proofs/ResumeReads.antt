@@ -9,7 +9,7 @@ use Rattle.maps.specs.Said.{Said, saying}
 use Rattle.maps.specs.declared.HeaderMap.{HeaderMap}
 use Rattle.maps.specs.declared.Checked.the-variants.{Fine}
 use Rattle.reader.specs.Calls.{checkedRooms, feeding}
-use Rattle.reader.specs.declared.Answer.{Answer}
+use Rattle.line_reader.specs.declared.Answer.{Answer}
 use Rattle.reader.specs.declared.Fed.{Fed}
 use Rattle.readings.specs.Listening.{Listening, silent, listening, refused}
 use Rattle.readings.specs.Hears.{soFar, saysThen}

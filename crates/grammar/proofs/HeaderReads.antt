@@ -6,7 +6,7 @@ use mathlib.Core.Option.{some}
 use Prim.Native.Nat.{ℕ, _≤_}
 use native.Mathlib.Omega.{arith}
 use lib.ListN.{length, length-map}
-use Rattle.reader.specs.Reading.{Rules, fed, begun}
+use Rattle.line_reader.specs.Reading.{Rules, fed, begun}
 use Rattle.readings.specs.Listening.{silent, listening}
 use Rattle.readings.proofs.HeardLaws.{hearing, over}
 use Rattle.rebuilds.specs.Clean.{Gives}

@@ -1,13 +1,10 @@
 // The reader over a map whose table is lent in numbers: begin, feed, finish and clear, no call of which copies the table.
 use folds::Change;
-use leaves::refusals::Refusal;
 use lent::tables;
-use lines::Took;
+use line_reader::Answer;
 use maps::Checked;
 use maps::Head;
 use maps::Phase;
-use maps::Status;
-use reader::Answer;
 ghost use mathlib.Core.Path.{_≡_};
 ghost use mathlib.Core.List.{List};
 ghost use lib.ListN.{length};
@@ -15,6 +12,7 @@ ghost use Rattle.maps.specs.Good.{Ready};
 ghost use Rattle.maps.specs.Maps.{Is};
 ghost use Rattle.maps.specs.Heads.{under};
 ghost use Rattle.maps.specs.declared.Field.{Field};
+ghost use Rattle.line_reader.specs.Turns.{Puts, putIn};
 ghost use Rattle.reader.specs.Calls.{fedFrom, finishedFrom, feeding, finishing, clearing, beginning};
 ghost use Rattle.lent.specs.Table.{tableOf, mapIn};
 ghost use Rattle.lent_reader.specs.Lent.{fedIn, madeIn};
@@ -32,105 +30,40 @@ pub struct MadeHead {
     pub answer: Checked,
 }
 
+// Puts into the table what a change puts.
+fn put_change(t: &mut [u32], change: Change)
+    requires { ⌜ (length (now t) ≡ 1024) × Puts change ⌝ }
+    ensures { λ _. ⌜ tableOf (now (t .exit)) ≡ putIn (tableOf (now (t .entry))) change ⌝ }
+{
+    match change {
+        Change::Nothing => {}
+        Change::Status(p) => {}
+        Change::Put(slot, x, mark) => tables::put_field(t, slot, x),
+        Change::Refused(e) => {}
+    }
+}
+
 // Feeds a good map, line by line.
 fn feed_lines(h: Head, t: &mut [u32], block: &mut [u8], store: &mut [u8], piece: &[u8]) -> FedHead
     requires { ⌜ (length (now t) ≡ 1024) × Ready (mapIn (now t) h) (now block) (now store) ⌝ }
     ensures { λ r. ⌜ Is (fedFrom (mapIn (now (t .entry)) h) (now (block .entry)) (now (store .entry)) (now (piece .entry))) (fedIn (now (t .exit)) r) (now (block .exit)) (now (store .exit)) ⌝ }
 {
-    let limit = h.limit;
-    let room = h.room;
-    let quirks = h.quirks;
-    let edited = h.edited;
-    let phase = h.phase;
-    let mut status = h.status;
-    let mut awaits = h.awaits;
-    let mut count = h.count;
-    let mut start = h.line;
-    let mut n = h.fields;
-    let mut mark = h.mark;
+    let mut now = h;
     let mut at = 0;
     let mut answer = Answer::More;
     let mut going = true;
     while going {
-        let took = lines::take_line(piece, at, block, count, limit, start, quirks);
-        match took {
-            Took::More(k) => {
-                count += k;
-                at += k;
-                going = false;
-            }
-            Took::Full(k) => {
-                count += k;
-                at += k;
-                answer = Answer::Refused(Refusal::BlockFull);
-                going = false;
-            }
-            Took::Line(k) => {
-                let from = at;
-                let whole = start == count;
-                count += k;
-                at += k;
-                let line = &block[start..count];
-                if folds::ends_block(line, quirks) {
-                    start = count;
-                    answer = Answer::Blank;
-                    going = false;
-                } else {
-                    let c = reader::colon_of(piece, from, k, line, whole);
-                    let last = reader::last_of(n);
-                    let f = tables::field_at(t, last);
-                    let change = folds::line_change(
-                        c,
-                        block,
-                        store,
-                        start,
-                        count,
-                        awaits,
-                        f,
-                        n,
-                        room,
-                        mark,
-                    );
-                    match change {
-                        Change::Nothing => {
-                            start = count;
-                        }
-                        Change::Status(p) => {
-                            status = Status::At(p);
-                            awaits = false;
-                            start = count;
-                        }
-                        Change::Put(slot, x, to) => {
-                            tables::put_field(t, slot, x);
-                            n = slot + 1;
-                            mark = to;
-                            start = count;
-                        }
-                        Change::Refused(e) => {
-                            answer = Answer::Refused(e);
-                            going = false;
-                        }
-                    }
-                }
-            }
-        }
+        let slot = line_reader::last_of(now.fields);
+        let last = tables::field_at(t, slot);
+        let turn = line_reader::take_turn(now, last, block, store, piece, at);
+        let change = turn.change;
+        put_change(t, change);
+        now = turn.head;
+        at = turn.taken;
+        answer = turn.answer;
+        going = turn.going;
     }
-    let head = reader::head_after(
-        answer,
-        Head {
-            limit,
-            room,
-            count,
-            line: start,
-            mark,
-            fields: n,
-            status,
-            awaits,
-            quirks,
-            edited,
-            phase,
-        },
-    );
+    let head = reader::head_after(answer, now);
     FedHead {
         head,
         taken: at,
@@ -160,73 +93,18 @@ fn finish_line(h: Head, t: &mut [u32], block: &[u8], store: &mut [u8]) -> FedHea
     requires { ⌜ (length (now t) ≡ 1024) × Ready (mapIn (now t) h) (now block) (now store) ⌝ }
     ensures { λ r. ⌜ Is (finishedFrom (mapIn (now (t .entry)) h) (now (block .entry)) (now (store .entry))) (fedIn (now (t .exit)) r) (now (block .entry)) (now (store .exit)) ⌝ }
 {
-    let room = h.room;
-    let awaits = h.awaits;
-    let count = h.count;
-    let line = h.line;
-    let n = h.fields;
-    let mark = h.mark;
-    if line < count {
-        let last = reader::last_of(n);
-        let f = tables::field_at(t, last);
-        let change = folds::rule_four(block, store, line, count, awaits, f, n, room, mark);
-        match change {
-            Change::Nothing => {
-                let head = reader::head_after(Answer::Input, Head { line: count, ..h });
-                FedHead {
-                    head,
-                    taken: 0,
-                    answer: Answer::Input,
-                }
-            }
-            Change::Status(p) => {
-                let head = reader::head_after(
-                    Answer::Input,
-                    Head {
-                        line: count,
-                        status: Status::At(p),
-                        ..h
-                    },
-                );
-                FedHead {
-                    head,
-                    taken: 0,
-                    answer: Answer::Input,
-                }
-            }
-            Change::Put(slot, x, to) => {
-                tables::put_field(t, slot, x);
-                let head = reader::head_after(
-                    Answer::Input,
-                    Head {
-                        line: count,
-                        mark: to,
-                        fields: slot + 1,
-                        ..h
-                    },
-                );
-                FedHead {
-                    head,
-                    taken: 0,
-                    answer: Answer::Input,
-                }
-            }
-            Change::Refused(e) => {
-                let head = reader::head_after(Answer::Refused(e), h);
-                FedHead {
-                    head,
-                    taken: 0,
-                    answer: Answer::Refused(e),
-                }
-            }
-        }
-    } else {
-        let head = reader::head_after(Answer::Input, h);
-        FedHead {
-            head,
-            taken: 0,
-            answer: Answer::Input,
-        }
+    let slot = line_reader::last_of(h.fields);
+    let last = tables::field_at(t, slot);
+    let turn = line_reader::last_turn(h, last, block, store);
+    let change = turn.change;
+    put_change(t, change);
+    let answer = turn.answer;
+    let left = turn.head;
+    let head = reader::head_after(answer, left);
+    FedHead {
+        head,
+        taken: 0,
+        answer,
     }
 }
 

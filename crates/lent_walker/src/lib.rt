@@ -1,12 +1,12 @@
 // The record walker over a map whose table is lent in numbers: it takes the turns of the walker by value, and no call copies the table.
 use lent::tables;
+use line_reader::Answer;
 use maps::Checked;
 use maps::Head;
 use openings::Opening;
 use openings::Sight;
 use openings::Sights;
 use openings::Spots;
-use reader::Answer;
 use walker::Headed;
 use walker::Kept;
 use walker::Stage;

@@ -61,10 +61,12 @@ maps =
 pub shared : Shared
 shared =
     record {
-      empty-head = λ κ a r e h. h;
-      head-after = λ κ a r e h. h;
       last-of = λ κ a r e h. h;
       colon-of = λ κ a r e h. h;
+      take-turn = λ κ a r e h. h;
+      last-turn = λ κ a r e h. h;
+      empty-head = λ κ a r e h. h;
+      head-after = λ κ a r e h. h;
       check-rooms = λ κ a r e h. h;
       changed = λ κ a r e h. h;
       plan-put = λ κ a r e h. h;
@@ -247,10 +249,12 @@ asks =
           };
       shared =
           record {
-            empty-head = λ κ a. tt;
-            head-after = λ κ a. tt;
             last-of = λ κ a. tt;
             colon-of = λ κ a h. h;
+            take-turn = λ κ a h. h;
+            last-turn = λ κ a h. h;
+            empty-head = λ κ a. tt;
+            head-after = λ κ a. tt;
             check-rooms = λ κ a. tt;
             changed = λ κ a. tt;
             plan-put = λ κ a h. h;

@@ -11,7 +11,8 @@ use Rattle.maps.specs.Good.{Fit, checkedDone}
 use Rattle.maps.specs.Said.{statusAt}
 use Rattle.maps.specs.declared.Checked.the-variants.{Fine}
 use Rattle.folds.specs.Asks.{FoldReady}
-use Rattle.reader.specs.Lying.{Lying}
+use Rattle.line_reader.specs.Lying.{Lying}
+use Rattle.line_reader.specs.Turns.{Able}
 use Rattle.writes.specs.Written.{pairLine, statusLine}
 use Rattle.lent.specs.Numbers.{soundHead, soundMap}
 use Rattle.library.specs.Says.{Free, Asks, first, second, third, fourth, fifth, sixth, seventh, eighth, ninth, tenth}
@@ -65,10 +66,12 @@ pub record MapsAsk : Type 0 where
 
 -- what a call over a map by value and the same over one in lent numbers are both made of
 pub record SharedAsk : Type 0 where
+  pub last-of : Free Rattle.line_reader.proofs.last_of.Reads.Asked
+  pub colon-of : Asks Rattle.line_reader.proofs.colon_of.Reads.Asked (λ κ a. Lying (now (first a)) (second a) (third a) (now (fourth a)) (fifth a))
+  pub take-turn : Asks Rattle.line_reader.proofs.take_turn.Reads.Asked (λ κ a. Able (first a) (second a) (now (third a)) (now (fourth a)) × ((sixth a) ≤ length (now (fifth a))))
+  pub last-turn : Asks Rattle.line_reader.proofs.last_turn.Reads.Asked (λ κ a. Able (first a) (second a) (now (third a)) (now (fourth a)))
   pub empty-head : Free Rattle.reader.proofs.empty_head.Reads.Asked
   pub head-after : Free Rattle.reader.proofs.head_after.Reads.Asked
-  pub last-of : Free Rattle.reader.proofs.last_of.Reads.Asked
-  pub colon-of : Asks Rattle.reader.proofs.colon_of.Reads.Asked (λ κ a. Lying (now (first a)) (second a) (third a) (now (fourth a)) (fifth a))
   pub check-rooms : Free Rattle.reader.proofs.check_rooms.Reads.Asked
   pub changed : Free Rattle.edits.proofs.changed.Reads.Asked
   pub plan-put : Asks Rattle.edits.proofs.plan_put.Reads.Asked (λ κ a. (second a ≤ third a) × (third a ≤ 65536))

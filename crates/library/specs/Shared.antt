@@ -10,7 +10,9 @@ use Rattle.leaves.specs.Octets.{before}
 use Rattle.leaves.specs.Paste.{pasted}
 use Rattle.leaves.specs.Sanitise.{sanitised}
 use Rattle.maps.specs.Heads.{emptyHead}
+use Rattle.maps.specs.Maps.{Is}
 use Rattle.maps.specs.Said.{saying, statusAt}
+use Rattle.line_reader.specs.Turns.{turning, ending}
 use Rattle.reader.specs.Calls.{checkedRooms}
 use Rattle.reader.specs.Heads.{headAfter}
 use Rattle.lookups.specs.Lookups.{handedOut, statusIn}
@@ -20,18 +22,23 @@ use Rattle.openings.specs.Opening.{opened}
 use Rattle.openings.specs.Sights.{noted, openedAt}
 use Rattle.walker.specs.Trails.{Ends, Follows, Turns, headedWalked, keptHead}
 use Rattle.walker.specs.Walk.{readyAt}
-use Rattle.library.specs.Says.{Says, first, second, third, fourth, fifth}
+use Rattle.library.specs.Says.{Says, first, second, third, fourth, fifth, sixth}
 
 pub record Shared : Type 0 where
+  -- one line of a reading
+  -- last_of(n)
+  pub last-of : Says Rattle.line_reader.proofs.last_of.Reads.Learnt (λ κ a r e. r ≡ (first a) - 1)
+  -- colon_of(piece, from, k, line, whole)
+  pub colon-of : Says Rattle.line_reader.proofs.colon_of.Reads.Learnt (λ κ a r e. r ≡ before 58 (now (fourth a)))
+  -- take_turn(h, last, block, store, piece, at)
+  pub take-turn : Says Rattle.line_reader.proofs.take_turn.Reads.Learnt (λ κ a r e. Is (turning (first a) (second a) (now (third a)) (now (fourth a)) (now (fifth a)) (sixth a)) r (now (third e)) (now (fourth e)))
+  -- last_turn(h, last, block, store)
+  pub last-turn : Says Rattle.line_reader.proofs.last_turn.Reads.Learnt (λ κ a r e. Is (ending (first a) (second a) (now (third a)) (now (fourth a))) r (now (third a)) (now (fourth e)))
   -- the reader
   -- empty_head(limit, room, awaits, quirks, phase)
   pub empty-head : Says Rattle.reader.proofs.empty_head.Reads.Learnt (λ κ a r e. r ≡ emptyHead (first a) (second a) (third a) (fourth a) (fifth a))
   -- head_after(answer, h)
   pub head-after : Says Rattle.reader.proofs.head_after.Reads.Learnt (λ κ a r e. r ≡ headAfter (first a) (second a))
-  -- last_of(n)
-  pub last-of : Says Rattle.reader.proofs.last_of.Reads.Learnt (λ κ a r e. r ≡ (first a) - 1)
-  -- colon_of(piece, from, k, line, whole)
-  pub colon-of : Says Rattle.reader.proofs.colon_of.Reads.Learnt (λ κ a r e. r ≡ before 58 (now (fourth a)))
   -- check_rooms(limit, room, block, store)
   pub check-rooms : Says Rattle.reader.proofs.check_rooms.Reads.Learnt (λ κ a r e. r ≡ checkedRooms (first a) (second a) (third a) (fourth a))
   -- edits

@@ -1,8 +1,4 @@
-pub mod Steps
 pub mod RoomLaws
-pub mod FitLaws
-pub mod OctetSteps
-pub mod LineSteps
-pub mod FeedLaws
-pub mod FinishLaws
+pub mod CallLaws
+pub mod EndLaws
 pub mod FedLaws

@@ -3,35 +3,23 @@ use mathlib.Core.Bool.{Bool, true, false, _&&_}
 use mathlib.Core.List.{List}
 use Prim.Native.Nat.{ℕ, _-_}
 use lib.Dec.{leb}
-use lib.ListN.{length, take}
+use lib.ListN.{length}
 use Rattle.leaves.specs.Paste.{lay}
 use Rattle.leaves.specs.declared.refusals.Refusal.{Refusal}
 use Rattle.leaves.specs.Refusals.{refusal}
-use Rattle.maps.specs.Good.{goodRooms, live, checked, checkedReading, unless}
+use Rattle.maps.specs.Good.{goodRooms, checked, checkedReading, unless}
 use Rattle.maps.specs.Maps.{empty, Given}
 use Rattle.maps.specs.declared.Phase.{Phase}
 use Rattle.maps.specs.declared.Phase.the-variants.{Reading as Open, Done}
 use Rattle.maps.specs.declared.HeaderMap.{HeaderMap}
 use Rattle.maps.specs.declared.Checked.{Checked}
 use Rattle.maps.specs.declared.Checked.the-variants.{Fine, Refused as Refuses}
-use Rattle.reader.specs.Reading.{Rules, Reading, fed, finished}
-use Rattle.reader.specs.declared.Answer.{Answer}
-use Rattle.reader.specs.declared.Answer.the-variants.{More, Blank, Input, Refused}
+use Rattle.line_reader.specs.Reading.{Reading, fed, finished}
+use Rattle.line_reader.specs.Standing.{rulesOf, readingOf}
+use Rattle.line_reader.specs.declared.Answer.{Answer}
+use Rattle.line_reader.specs.declared.Answer.the-variants.{More, Blank, Input, Refused}
 use Rattle.reader.specs.declared.Fed.{Fed}
 use Rattle.reader.specs.declared.Made.{Made}
-
-abbrev pub rulesOf : HeaderMap → Rules
-rulesOf m = record { limit = m .limit; room = m .room; quirks = m .quirks }
-
--- the reading that a map stands for
-abbrev pub readingOf : HeaderMap → List ℕ → List ℕ → Reading
-readingOf m b s =
-    record {
-      block = take (m .count) b;
-      line = m .line;
-      found = record { awaits = m .awaits; status = m .status; fields = live m; store = take (m .mark) s };
-      answer = More;
-    }
 
 -- the map that stands for a reading which m went on to
 abbrev pub mapAt : Phase → Bool → Bool → HeaderMap → Reading → HeaderMap

@@ -1,29 +1,19 @@
 // The reader: begin, feed, finish and clear, over a map and its two loans.
 use folds::Change;
 use leaves::refusals::Refusal;
-use lines::Took;
+use line_reader::Answer;
 use maps::Checked;
+use maps::Field;
 use maps::Head;
 use maps::HeaderMap;
 use maps::Phase;
 use maps::Status;
 ghost use mathlib.Core.Path.{_≡_};
-ghost use Prim.Native.Nat.{_-_};
-ghost use Rattle.leaves.specs.Octets.{before};
 ghost use Rattle.maps.specs.Good.{Ready};
 ghost use Rattle.maps.specs.Maps.{Is};
-ghost use Rattle.reader.specs.Lying.{Lying};
-ghost use Rattle.maps.specs.Heads.{emptyHead};
-ghost use Rattle.reader.specs.Heads.{headAfter, headWhen};
+ghost use Rattle.maps.specs.Heads.{emptyHead, headOf, under};
+ghost use Rattle.reader.specs.Heads.{headAfter, headWhen, spotOf};
 ghost use Rattle.reader.specs.Calls.{checkedRooms, fedFrom, finishedFrom, feeding, finishing, clearing, beginning};
-
-// What a piece, or the end of input, did: more is wanted, a blank line or the end of input closed the reading, or a refusal.
-pub enum Answer {
-    More,
-    Blank,
-    Input,
-    Refused(Refusal),
-}
 
 pub struct Fed {
     pub map: HeaderMap,
@@ -35,6 +25,12 @@ pub struct Fed {
 pub struct Made {
     pub map: HeaderMap,
     pub answer: Checked,
+}
+
+// A field, and its number in the table.
+pub struct Spot {
+    pub slot: usize,
+    pub field: Field,
 }
 
 // The head of an empty map.
@@ -88,23 +84,59 @@ fn head_when(checked: Checked, new: Head, old: Head) -> Head
     }
 }
 
-// The number of the last of n fields, 0 if there is none.
-pub fn last_of(n: usize) -> usize
-    ensures { λ r. ⌜ r ≡ n - 1 ⌝ }
+// The head of a map.
+fn head_of(m: HeaderMap) -> Head
+    ensures { λ r. ⌜ r ≡ headOf m ⌝ }
 {
-    if n == 0 { 0 } else { n - 1 }
+    let status = m.status;
+    let phase = m.phase;
+    Head {
+        limit: m.limit,
+        room: m.room,
+        count: m.count,
+        line: m.line,
+        mark: m.mark,
+        fields: m.fields,
+        status,
+        awaits: m.awaits,
+        quirks: m.quirks,
+        edited: m.edited,
+        phase,
+    }
 }
 
-// How many octets of a line stand before its first colon. Where the line lies whole in the piece, at from, it is looked for there: octets
-// that were just stored are slow to read back.
-pub fn colon_of(piece: &[u8], from: usize, k: usize, line: &[u8], whole: bool) -> usize
-    requires { ⌜ Lying (now piece) from k (now line) whole ⌝ }
-    ensures { λ r. ⌜ r ≡ before 58 (now (line .entry)) ⌝ }
+// The map of a table under a head.
+fn map_under(table: [Field; 256], h: Head) -> HeaderMap
+    ensures { λ r. ⌜ r ≡ under table h ⌝ }
 {
-    if whole {
-        return lines::before_within(piece, from, k, 58);
+    let status = h.status;
+    let phase = h.phase;
+    HeaderMap {
+        table,
+        limit: h.limit,
+        room: h.room,
+        count: h.count,
+        line: h.line,
+        mark: h.mark,
+        fields: h.fields,
+        status,
+        awaits: h.awaits,
+        quirks: h.quirks,
+        edited: h.edited,
+        phase,
     }
-    lines::find_octet(line, 0, 58)
+}
+
+// The field that a change puts, and where; a change that puts none leaves the last field where it is.
+fn spot_of(change: Change, slot: usize, last: Field) -> Spot
+    ensures { λ r. ⌜ r ≡ spotOf change slot last ⌝ }
+{
+    match change {
+        Change::Nothing => Spot { slot, field: last },
+        Change::Status(p) => Spot { slot, field: last },
+        Change::Put(to, x, mark) => Spot { slot: to, field: x },
+        Change::Refused(e) => Spot { slot, field: last },
+    }
 }
 
 // Feeds a good map, line by line.
@@ -112,117 +144,27 @@ fn feed_lines(m: HeaderMap, block: &mut [u8], store: &mut [u8], piece: &[u8]) ->
     requires { ⌜ Ready m (now block) (now store) ⌝ }
     ensures { λ r. ⌜ Is (fedFrom m (now (block .entry)) (now (store .entry)) (now (piece .entry))) r (now (block .exit)) (now (store .exit)) ⌝ }
 {
-    let limit = m.limit;
-    let room = m.room;
-    let quirks = m.quirks;
-    let edited = m.edited;
-    let phase = m.phase;
     let mut t = m.table;
-    let mut status = m.status;
-    let mut awaits = m.awaits;
-    let mut count = m.count;
-    let mut start = m.line;
-    let mut n = m.fields;
-    let mut mark = m.mark;
+    let mut h = head_of(m);
     let mut at = 0;
     let mut answer = Answer::More;
     let mut going = true;
     while going {
-        let took = lines::take_line(piece, at, block, count, limit, start, quirks);
-        match took {
-            Took::More(k) => {
-                count += k;
-                at += k;
-                going = false;
-            }
-            Took::Full(k) => {
-                count += k;
-                at += k;
-                answer = Answer::Refused(Refusal::BlockFull);
-                going = false;
-            }
-            Took::Line(k) => {
-                let from = at;
-                let whole = start == count;
-                count += k;
-                at += k;
-                let line = &block[start..count];
-                if folds::ends_block(line, quirks) {
-                    start = count;
-                    answer = Answer::Blank;
-                    going = false;
-                } else {
-                    let c = colon_of(piece, from, k, line, whole);
-                    let last = last_of(n);
-                    let f = t[last];
-                    let change = folds::line_change(
-                        c,
-                        block,
-                        store,
-                        start,
-                        count,
-                        awaits,
-                        f,
-                        n,
-                        room,
-                        mark,
-                    );
-                    match change {
-                        Change::Nothing => {
-                            start = count;
-                        }
-                        Change::Status(p) => {
-                            status = Status::At(p);
-                            awaits = false;
-                            start = count;
-                        }
-                        Change::Put(slot, x, to) => {
-                            t[slot] = x;
-                            n = slot + 1;
-                            mark = to;
-                            start = count;
-                        }
-                        Change::Refused(e) => {
-                            answer = Answer::Refused(e);
-                            going = false;
-                        }
-                    }
-                }
-            }
-        }
+        let slot = line_reader::last_of(h.fields);
+        let last = t[slot];
+        let turn = line_reader::take_turn(h, last, block, store, piece, at);
+        let change = turn.change;
+        let spot = spot_of(change, slot, last);
+        let to = spot.slot;
+        let x = spot.field;
+        t[to] = x;
+        h = turn.head;
+        at = turn.taken;
+        answer = turn.answer;
+        going = turn.going;
     }
-    let end = head_after(
-        answer,
-        Head {
-            limit,
-            room,
-            count,
-            line: start,
-            mark,
-            fields: n,
-            status,
-            awaits,
-            quirks,
-            edited,
-            phase,
-        },
-    );
-    let status = end.status;
-    let phase = end.phase;
-    let map = HeaderMap {
-        table: t,
-        limit: end.limit,
-        room: end.room,
-        count: end.count,
-        line: end.line,
-        mark: end.mark,
-        fields: end.fields,
-        status,
-        awaits: end.awaits,
-        quirks: end.quirks,
-        edited: end.edited,
-        phase,
-    };
+    let head = head_after(answer, h);
+    let map = map_under(t, head);
     Fed {
         map,
         taken: at,
@@ -251,97 +193,24 @@ fn finish_line(m: HeaderMap, block: &[u8], store: &mut [u8]) -> Fed
     requires { ⌜ Ready m (now block) (now store) ⌝ }
     ensures { λ r. ⌜ Is (finishedFrom m (now (block .entry)) (now (store .entry))) r (now (block .entry)) (now (store .exit)) ⌝ }
 {
-    let room = m.room;
-    let awaits = m.awaits;
-    let count = m.count;
-    let line = m.line;
-    let n = m.fields;
-    let mark = m.mark;
     let mut t = m.table;
-    if line < count {
-        let last = last_of(n);
-        let f = t[last];
-        let change = folds::rule_four(block, store, line, count, awaits, f, n, room, mark);
-        match change {
-            Change::Nothing => {
-                let map = HeaderMap {
-                    line: count,
-                    awaits: false,
-                    quirks: false,
-                    phase: Phase::Done,
-                    ..m
-                };
-                Fed {
-                    map,
-                    taken: 0,
-                    answer: Answer::Input,
-                }
-            }
-            Change::Status(p) => {
-                let map = HeaderMap {
-                    line: count,
-                    status: Status::At(p),
-                    awaits: false,
-                    quirks: false,
-                    phase: Phase::Done,
-                    ..m
-                };
-                Fed {
-                    map,
-                    taken: 0,
-                    answer: Answer::Input,
-                }
-            }
-            Change::Put(slot, x, to) => {
-                t[slot] = x;
-                let map = HeaderMap {
-                    table: t,
-                    line: count,
-                    mark: to,
-                    fields: slot + 1,
-                    awaits: false,
-                    quirks: false,
-                    phase: Phase::Done,
-                    ..m
-                };
-                Fed {
-                    map,
-                    taken: 0,
-                    answer: Answer::Input,
-                }
-            }
-            Change::Refused(e) => {
-                let map = HeaderMap {
-                    count: 0,
-                    line: 0,
-                    mark: 0,
-                    fields: 0,
-                    status: Status::Absent,
-                    awaits: false,
-                    quirks: false,
-                    edited: false,
-                    phase: Phase::Done,
-                    ..m
-                };
-                Fed {
-                    map,
-                    taken: 0,
-                    answer: Answer::Refused(e),
-                }
-            }
-        }
-    } else {
-        let map = HeaderMap {
-            awaits: false,
-            quirks: false,
-            phase: Phase::Done,
-            ..m
-        };
-        Fed {
-            map,
-            taken: 0,
-            answer: Answer::Input,
-        }
+    let h = head_of(m);
+    let slot = line_reader::last_of(h.fields);
+    let last = t[slot];
+    let turn = line_reader::last_turn(h, last, block, store);
+    let change = turn.change;
+    let spot = spot_of(change, slot, last);
+    let place = spot.slot;
+    let field = spot.field;
+    t[place] = field;
+    let answer = turn.answer;
+    let left = turn.head;
+    let head = head_after(answer, left);
+    let map = map_under(t, head);
+    Fed {
+        map,
+        taken: 0,
+        answer,
     }
 }
 
@@ -365,29 +234,15 @@ pub fn finish(m: HeaderMap, block: &[u8], store: &mut [u8]) -> Fed
 pub fn clear(m: HeaderMap, block: &[u8], store: &[u8]) -> Made
     ensures { λ r. ⌜ Is (clearing m (now (block .entry)) (now (store .entry))) r (now (block .entry)) (now (store .entry)) ⌝ }
 {
-    match maps::check(m, true, block.len(), store.len()) {
-        Checked::Fine => {
-            let map = HeaderMap {
-                count: 0,
-                line: 0,
-                mark: 0,
-                fields: 0,
-                status: Status::Absent,
-                awaits: false,
-                quirks: false,
-                edited: false,
-                phase: Phase::Done,
-                ..m
-            };
-            Made {
-                map,
-                answer: Checked::Fine,
-            }
-        }
-        Checked::Refused(e) => Made {
-            map: m,
-            answer: Checked::Refused(e),
-        },
+    let checked = maps::check(m, true, block.len(), store.len());
+    let table = m.table;
+    let old = head_of(m);
+    let cleared = empty_head(m.limit, m.room, false, false, Phase::Done);
+    let head = head_when(checked, cleared, old);
+    let map = map_under(table, head);
+    Made {
+        map,
+        answer: checked,
     }
 }
 
@@ -421,38 +276,9 @@ pub fn begin(
 {
     let answer = check_rooms(limit, room, block.len(), store.len());
     let table = m.table;
-    let status = m.status;
-    let phase = m.phase;
-    let old = Head {
-        limit: m.limit,
-        room: m.room,
-        count: m.count,
-        line: m.line,
-        mark: m.mark,
-        fields: m.fields,
-        status,
-        awaits: m.awaits,
-        quirks: m.quirks,
-        edited: m.edited,
-        phase,
-    };
+    let old = head_of(m);
     let new = empty_head(limit, room, awaits, quirks, Phase::Reading);
     let head = head_when(answer, new, old);
-    let status = head.status;
-    let phase = head.phase;
-    let map = HeaderMap {
-        table,
-        limit: head.limit,
-        room: head.room,
-        count: head.count,
-        line: head.line,
-        mark: head.mark,
-        fields: head.fields,
-        status,
-        awaits: head.awaits,
-        quirks: head.quirks,
-        edited: head.edited,
-        phase,
-    };
+    let map = map_under(table, head);
     Made { map, answer }
 }

@@ -13,7 +13,7 @@ use Rattle.maps.specs.declared.Phase.the-variants.{Reading as Open}
 use Rattle.maps.specs.declared.HeaderMap.{HeaderMap}
 use Rattle.maps.specs.declared.Checked.the-variants.{Fine}
 use Rattle.maps.proofs.GoodLaws.{checked-fine, goes-on}
-use Rattle.reader.specs.Reading.{Rules, fed, begun}
+use Rattle.line_reader.specs.Reading.{Rules, fed, begun}
 use Rattle.reader.specs.Calls.{gives, feeding, beginning, checkedRooms}
 use Rattle.reader.specs.declared.Fed.{Fed}
 use Rattle.reader.specs.declared.Made.{Made}

@@ -13,10 +13,10 @@ use Rattle.maps.specs.declared.Checked.the-variants.{Fine}
 use Rattle.folds.specs.declared.Change.{Change}
 use Rattle.folds.specs.declared.Change.the-variants.{Nothing, Status as Headed, Put, Refused as Stops}
 use Rattle.reader.specs.Answers.{told}
-use Rattle.reader.specs.Reading.{Rules, Reading, begun, goes, lined, ruled, fed, finished}
+use Rattle.line_reader.specs.Reading.{Rules, Reading, begun, goes, lined, ruled, fed, finished}
 use Rattle.reader.specs.Calls.{checkedRooms, beginning, feeding, finishing}
-use Rattle.reader.specs.declared.Answer.{Answer}
-use Rattle.reader.specs.declared.Answer.the-variants.{More, Input}
+use Rattle.line_reader.specs.declared.Answer.{Answer}
+use Rattle.line_reader.specs.declared.Answer.the-variants.{More, Input}
 use Rattle.reader.specs.declared.Fed.{Fed}
 use Rattle.readings.specs.Heard.{Hearing, heard}
 use Rattle.readings.specs.Listening.{Listening, silent, listening, lastHeard, said, hearingOf, answered}

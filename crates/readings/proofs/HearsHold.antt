@@ -17,10 +17,11 @@ use Rattle.maps.specs.declared.Checked.the-variants.{Fine}
 use Rattle.maps.proofs.TextLaws.{pairs-front, status-front}
 use Rattle.maps.proofs.GoodLaws.{ready-of}
 use Rattle.maps.proofs.SaidLaws.{said-is, said-same}
-use Rattle.reader.specs.Reading.{Rules, Reading, fed, finished, begun}
-use Rattle.reader.specs.Calls.{rulesOf, readingOf, mapOf, gives, feeding, finishing, beginning, checkedRooms}
-use Rattle.reader.specs.declared.Answer.{Answer}
-use Rattle.reader.specs.declared.Answer.the-variants.{More, Blank, Input}
+use Rattle.line_reader.specs.Reading.{Rules, Reading, fed, finished, begun}
+use Rattle.reader.specs.Calls.{mapOf, gives, feeding, finishing, beginning, checkedRooms}
+use Rattle.line_reader.specs.Standing.{rulesOf, readingOf}
+use Rattle.line_reader.specs.declared.Answer.{Answer}
+use Rattle.line_reader.specs.declared.Answer.the-variants.{More, Blank, Input}
 use Rattle.reader.specs.declared.Fed.{Fed}
 use Rattle.readings.specs.Heard.{Hearing}
 use Rattle.readings.specs.Listening.{Listening, silent, listening, lastHeard, said, hearingOf, atBlank, refused, answered, listeningOf}

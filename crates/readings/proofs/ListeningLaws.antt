@@ -15,12 +15,12 @@ use Rattle.maps.proofs.TextLaws.{pairs-front, status-front}
 use Rattle.maps.proofs.SaidLaws.{said-same}
 use Rattle.folds.specs.declared.Change.{Change}
 use Rattle.folds.specs.declared.Change.the-variants.{Nothing, Status as Headed, Put, Refused as Stops}
-use Rattle.reader.specs.Reading.{Rules, Reading, begun, goes, lined, ruled, closed, put, step, fed, finished}
-use Rattle.reader.specs.declared.Answer.{Answer}
-use Rattle.reader.specs.declared.Answer.the-variants.{More, Blank, Input, Refused}
+use Rattle.line_reader.specs.Reading.{Rules, Reading, begun, goes, lined, ruled, closed, put, step, fed, finished}
+use Rattle.line_reader.specs.declared.Answer.{Answer}
+use Rattle.line_reader.specs.declared.Answer.the-variants.{More, Blank, Input, Refused}
 use Rattle.maps.proofs.FitLaws.{all-mono, status-mono}
-use Rattle.reader.proofs.OctetSteps.{still}
-use Rattle.reader.proofs.Steps.{lined-block}
+use Rattle.line_reader.proofs.OctetSteps.{still}
+use Rattle.line_reader.proofs.Steps.{lined-block}
 use Rattle.readings.specs.Heard.{Hearing, heard}
 use Rattle.readings.specs.Listening.{Listening, silent, lineHeard, listened, listening, lastHeard, said, hearingOf, atBlank, refused, answered, listeningOf}
 use Rattle.readings.proofs.Kept.{Sound, fed-later, begun-sound}

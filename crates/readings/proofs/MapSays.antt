@@ -12,7 +12,7 @@ use Rattle.maps.specs.declared.Phase.{Phase}
 use Rattle.maps.specs.declared.HeaderMap.{HeaderMap}
 use Rattle.maps.proofs.TextLaws.{pairs-front, status-front}
 use Rattle.maps.proofs.SaidLaws.{said-is}
-use Rattle.reader.specs.Reading.{Reading}
+use Rattle.line_reader.specs.Reading.{Reading}
 use Rattle.reader.specs.Calls.{mapAt}
 use Rattle.readings.specs.Listening.{said}
 

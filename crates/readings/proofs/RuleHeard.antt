@@ -27,8 +27,8 @@ use Rattle.maps.proofs.SaidLaws.{pair-same}
 use Rattle.folds.specs.Rule.{Ruling, plain, trimmedAt, continues, grown, regrown, folded, split, rule4}
 use Rattle.folds.specs.declared.Change.{Change}
 use Rattle.folds.specs.declared.Change.the-variants.{Nothing, Status as Headed, Put, Refused as Stops}
-use Rattle.reader.specs.Reading.{Rules, Gathered, Reading, changed, lined, ruled}
-use Rattle.reader.specs.declared.Answer.{Answer}
+use Rattle.line_reader.specs.Reading.{Rules, Gathered, Reading, changed, lined, ruled}
+use Rattle.line_reader.specs.declared.Answer.{Answer}
 use Rattle.maps.proofs.FitLaws.{all-take, all-get}
 use Rattle.readings.specs.Heard.{Hearing, continued, fieldsIn, heard}
 use Rattle.readings.specs.Listening.{said, hearingOf, refused}

@@ -17,11 +17,12 @@ use Rattle.maps.specs.declared.Checked.the-variants.{Fine}
 use Rattle.maps.proofs.GoodLaws.{ready-of}
 use Rattle.folds.specs.declared.Change.{Change}
 use Rattle.folds.specs.declared.Change.the-variants.{Nothing, Status as Headed, Put, Refused as Stops}
-use Rattle.reader.specs.Reading.{Rules, Reading, lined, ruled, fed, finished}
-use Rattle.reader.specs.Calls.{rulesOf, readingOf, mapOf, gives, feeding, finishing}
-use Rattle.reader.specs.declared.Answer.{Answer}
-use Rattle.reader.specs.declared.Answer.the-variants.{More, Blank, Input, Refused}
-use Rattle.reader.proofs.Steps.{unrefused, lined-block, Keeps, fed-keeps, finished-keeps}
+use Rattle.line_reader.specs.Reading.{Rules, Reading, lined, ruled, fed, finished}
+use Rattle.reader.specs.Calls.{mapOf, gives, feeding, finishing}
+use Rattle.line_reader.specs.Standing.{rulesOf, readingOf}
+use Rattle.line_reader.specs.declared.Answer.{Answer}
+use Rattle.line_reader.specs.declared.Answer.the-variants.{More, Blank, Input, Refused}
+use Rattle.line_reader.proofs.Steps.{unrefused, lined-block, Keeps, fed-keeps, finished-keeps}
 use Rattle.readings.specs.Hears.{Leaves}
 use Rattle.readings.proofs.Cut.{fed-goes, finish-goes}
 use Rattle.readings.proofs.ListeningLaws.{fed-octets}

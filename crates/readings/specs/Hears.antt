@@ -12,9 +12,10 @@ use Rattle.maps.specs.Said.{Said, saying}
 use Rattle.maps.specs.declared.HeaderMap.{HeaderMap}
 use Rattle.maps.specs.declared.Phase.the-variants.{Done}
 use Rattle.maps.specs.declared.Checked.the-variants.{Fine}
-use Rattle.reader.specs.Reading.{Reading, fed, finished}
-use Rattle.reader.specs.Calls.{rulesOf, readingOf, beginning, feeding, finishing, checkedRooms}
-use Rattle.reader.specs.declared.Answer.the-variants.{Input, Refused}
+use Rattle.line_reader.specs.Reading.{Reading, fed, finished}
+use Rattle.reader.specs.Calls.{beginning, feeding, finishing, checkedRooms}
+use Rattle.line_reader.specs.Standing.{rulesOf, readingOf}
+use Rattle.line_reader.specs.declared.Answer.the-variants.{Input, Refused}
 use Rattle.reader.specs.declared.Fed.{Fed}
 use Rattle.readings.specs.Listening.{Listening, silent, listening, lastHeard, refused, answered}
 

@@ -9,9 +9,9 @@ use Rattle.lines.specs.Line.{endsLine, crBefore}
 use Rattle.maps.specs.Said.{Said, pairAt, statusAt}
 use Rattle.folds.specs.Rule.{endsBlock}
 use Rattle.readings.specs.Heard.{Hearing, heard}
-use Rattle.reader.specs.Reading.{Reading}
-use Rattle.reader.specs.declared.Answer.{Answer}
-use Rattle.reader.specs.declared.Answer.the-variants.{More, Blank, Input, Refused}
+use Rattle.line_reader.specs.Reading.{Reading}
+use Rattle.line_reader.specs.declared.Answer.{Answer}
+use Rattle.line_reader.specs.declared.Answer.the-variants.{More, Blank, Input, Refused}
 
 -- octets that are being read: how many were taken, those of the line that has not ended, what the lines before it said, and whether the
 -- block has ended

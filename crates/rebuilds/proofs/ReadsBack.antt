@@ -9,7 +9,7 @@ use native.Mathlib.Omega.{arith}
 use lib.ListN.{length, length-append}
 use Rattle.leaves.proofs.ChoiceLaws.{and-left, and-right}
 use Rattle.leaves.proofs.TrimTexts.{trim-line, first-solid}
-use Rattle.reader.specs.Reading.{Rules, Reading, fed, begun}
+use Rattle.line_reader.specs.Reading.{Rules, Reading, fed, begun}
 use Rattle.maps.specs.Said.{Pair, Said}
 use Rattle.readings.specs.Heard.{Hearing}
 use Rattle.readings.specs.Listening.{Listening, silent, listening, said}

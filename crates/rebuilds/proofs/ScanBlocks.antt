@@ -9,7 +9,7 @@ use lib.Dec.{leb}
 use lib.ListN.{length, take}
 use Rattle.leaves.proofs.ChoiceLaws.{and-left, and-right, and-both}
 use Rattle.leaves.specs.Octets.{before}
-use Rattle.reader.specs.Reading.{Rules}
+use Rattle.line_reader.specs.Reading.{Rules}
 use Rattle.maps.specs.Said.{Pair, Said}
 use Rattle.writes.specs.Written.{crlf, statusLine, pairLines, rebuilt}
 use Rattle.rebuilds.specs.Clean.{neat, filled, cleanStatus, cleanPairs, clean, expects, tidy, Rebuilds}

@@ -12,7 +12,7 @@ use Rattle.leaves.specs.Octets.{sameList}
 use Rattle.leaves.proofs.NameLaws.{same-list-refl, same-list-eq}
 use Rattle.readings.specs.Listening.{said, atBlank}
 use Rattle.readings.proofs.Kept.{begun-sound, fed-within}
-use Rattle.reader.specs.Reading.{Rules, Reading, fed, begun}
+use Rattle.line_reader.specs.Reading.{Rules, Reading, fed, begun}
 use Rattle.maps.specs.Said.{Said, pairAt}
 use Rattle.writes.specs.Written.{rebuilt}
 use Rattle.rebuilds.specs.Clean.{clean, expects, Gives, alike, tidyAfter, tidy, Rebuilds}

@@ -8,9 +8,9 @@ use lib.Dec.{eqb}
 use lib.ListN.{length}
 use Rattle.leaves.specs.Octets.{has, sameList}
 use Rattle.leaves.specs.Trim.{trimmed}
-use Rattle.reader.specs.Reading.{Rules, Reading, begun, fed}
+use Rattle.line_reader.specs.Reading.{Rules, Reading, begun, fed}
 use Rattle.readings.specs.Listening.{said, atBlank}
-use Rattle.reader.specs.declared.Answer.the-variants.{Blank}
+use Rattle.line_reader.specs.declared.Answer.the-variants.{Blank}
 use Rattle.maps.specs.Said.{Pair, Said}
 use Rattle.writes.specs.Written.{rebuilt}
 

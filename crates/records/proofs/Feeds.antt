@@ -16,10 +16,11 @@ use Rattle.maps.specs.declared.HeaderMap.{HeaderMap}
 use Rattle.maps.specs.declared.Checked.the-variants.{Fine}
 use Rattle.maps.proofs.GoodBy.{good-facts, good-empty, rooms-by}
 use Rattle.maps.proofs.GoodLaws.{ready-of, checked-fine}
-use Rattle.reader.specs.Reading.{Rules, Gathered, Reading, goes, step, fed}
-use Rattle.reader.specs.Calls.{rulesOf, readingOf, mapOf, gives, feeding}
-use Rattle.reader.specs.declared.Answer.{Answer}
-use Rattle.reader.specs.declared.Answer.the-variants.{More, Blank, Input, Refused}
+use Rattle.line_reader.specs.Reading.{Rules, Gathered, Reading, goes, step, fed}
+use Rattle.reader.specs.Calls.{mapOf, gives, feeding}
+use Rattle.line_reader.specs.Standing.{rulesOf, readingOf}
+use Rattle.line_reader.specs.declared.Answer.{Answer}
+use Rattle.line_reader.specs.declared.Answer.the-variants.{More, Blank, Input, Refused}
 use Rattle.reader.specs.declared.Fed.{Fed}
 use Rattle.reader.proofs.FedLaws.{fed-none, fed-more, taken-within}
 use Rattle.walker.specs.Walk.{emptied}

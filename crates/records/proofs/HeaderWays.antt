@@ -14,10 +14,11 @@ use Rattle.maps.specs.Maps.{Given}
 use Rattle.maps.specs.Said.{saying}
 use Rattle.maps.specs.declared.HeaderMap.{HeaderMap}
 use Rattle.maps.specs.declared.Checked.the-variants.{Fine}
-use Rattle.reader.specs.Reading.{Reading, fed}
-use Rattle.reader.specs.Calls.{rulesOf, readingOf, mapOf, feeding}
-use Rattle.reader.specs.declared.Answer.{Answer}
-use Rattle.reader.specs.declared.Answer.the-variants.{More, Blank, Input, Refused as FedRefused}
+use Rattle.line_reader.specs.Reading.{Reading, fed}
+use Rattle.reader.specs.Calls.{mapOf, feeding}
+use Rattle.line_reader.specs.Standing.{rulesOf, readingOf}
+use Rattle.line_reader.specs.declared.Answer.{Answer}
+use Rattle.line_reader.specs.declared.Answer.the-variants.{More, Blank, Input, Refused as FedRefused}
 use Rattle.reader.specs.declared.Fed.{Fed}
 use Rattle.readings.proofs.Cut.{fed-goes}
 use Rattle.openings.specs.Opening.{opened}

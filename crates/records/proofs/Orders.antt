@@ -8,10 +8,10 @@ use lib.Dec.{eqb}
 use lib.ListN.{length}
 use Rattle.leaves.proofs.ChoiceLaws.{by-if}
 use Rattle.readings.specs.Listening.{said}
-use Rattle.reader.specs.Reading.{Rules, Reading, step}
-use Rattle.reader.specs.Reading.{begun as begins}
-use Rattle.reader.specs.declared.Answer.{Answer}
-use Rattle.reader.specs.declared.Answer.the-variants.{More, Blank, Input, Refused}
+use Rattle.line_reader.specs.Reading.{Rules, Reading, step}
+use Rattle.line_reader.specs.Reading.{begun as begins}
+use Rattle.line_reader.specs.declared.Answer.{Answer}
+use Rattle.line_reader.specs.declared.Answer.the-variants.{More, Blank, Input, Refused}
 use Rattle.openings.specs.Opening.{opened}
 use Rattle.openings.specs.declared.Opening.{Opening}
 use Rattle.openings.specs.declared.Opening.the-variants.{Record as Opens, Refused as Shut}

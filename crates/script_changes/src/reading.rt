@@ -1,8 +1,8 @@
 // The words `b`, `f`, `F` and `c`: begin, feed, finish, clear.
 use crate::Turned;
+use line_reader::Answer;
 use maps::Checked;
 use maps::HeaderMap;
-use reader::Answer;
 
 fn checked(said: &mut [u8], at: usize, c: Checked, letter: u8) -> usize {
     match c {

@@ -1,7 +1,7 @@
 // What the benchmarks time: the library's calls, over and over, for a driver in another language to link.
+use line_reader::Answer;
 use lookups::Found;
 use maps::HeaderMap;
-use reader::Answer;
 use reader::Fed;
 ghost use Prim.Native.Nat.{_<_, _≤_};
 

@@ -16,7 +16,7 @@ use Rattle.leaves.specs.declared.refusals.Refusal.the-variants.{BadRooms}
 use Rattle.writes.specs.Written.{crlf}
 use Rattle.rebuilds.specs.Clean.{filled, tidy}
 use Rattle.rebuilds.specs.Scan.{neatKey, neatLine, afterKey, afterLine, scanPairs, scanned}
-use Rattle.reader.specs.Reading.{Rules}
+use Rattle.line_reader.specs.Reading.{Rules}
 use Rattle.rebuilds.proofs.TidyBlocks.{tidy-flags}
 use Rattle.rebuilds.proofs.ScanBlocks.{tidy-scanned}
 use Rattle.tidy.specs.declared.scan.Past.the-variants.{Behind, Not}

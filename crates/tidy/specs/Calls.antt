@@ -8,7 +8,7 @@ use Rattle.leaves.specs.Refusals.{refusal}
 use Rattle.maps.specs.Good.{checkedDone, unless}
 use Rattle.maps.specs.declared.HeaderMap.{HeaderMap}
 use Rattle.maps.specs.Said.{saying}
-use Rattle.reader.specs.Reading.{Rules}
+use Rattle.line_reader.specs.Reading.{Rules}
 use Rattle.rebuilds.specs.Clean.{clean, tidy}
 use Rattle.tidy.specs.declared.Test.{Test}
 use Rattle.tidy.specs.declared.Test.the-variants.{Yes, No, Refused}

@@ -17,12 +17,13 @@ use Rattle.maps.specs.declared.Checked.{Checked}
 use Rattle.maps.specs.declared.Checked.the-variants.{Fine, Refused as Bad}
 use Rattle.maps.specs.declared.HeaderMap.{HeaderMap}
 use Rattle.maps.proofs.GoodLaws.{ready-of, checked-fine}
-use Rattle.reader.specs.Reading.{Reading, fed}
-use Rattle.reader.specs.Calls.{rulesOf, readingOf, mapOf, gives, feeding}
-use Rattle.reader.specs.declared.Answer.{Answer}
-use Rattle.reader.specs.declared.Answer.the-variants.{More as FedMore, Blank, Input as FedInput, Refused as FedRefused}
+use Rattle.line_reader.specs.Reading.{Reading, fed}
+use Rattle.reader.specs.Calls.{mapOf, gives, feeding}
+use Rattle.line_reader.specs.Standing.{rulesOf, readingOf}
+use Rattle.line_reader.specs.declared.Answer.{Answer}
+use Rattle.line_reader.specs.declared.Answer.the-variants.{More as FedMore, Blank, Input as FedInput, Refused as FedRefused}
 use Rattle.reader.specs.declared.Fed.{Fed}
-use Rattle.reader.proofs.FinishLaws.{feeding-stops}
+use Rattle.reader.proofs.CallLaws.{feeding-stops}
 use Rattle.readings.proofs.Kept.{Sound, fed-within, sound-of, good-of, lent-of}
 use Rattle.readings.proofs.Cut.{fed-goes}
 use Rattle.openings.specs.Opening.{opening}

@@ -15,8 +15,8 @@ use Rattle.maps.specs.declared.Checked.the-variants.{Fine, Refused as Bad}
 use Rattle.maps.specs.declared.Head.{Head}
 use Rattle.maps.specs.declared.HeaderMap.{HeaderMap}
 use Rattle.maps.specs.declared.Phase.the-variants.{Reading, Done}
-use Rattle.reader.specs.declared.Answer.{Answer}
-use Rattle.reader.specs.declared.Answer.the-variants.{More as FedMore, Blank, Input as FedInput, Refused as FedRefused}
+use Rattle.line_reader.specs.declared.Answer.{Answer}
+use Rattle.line_reader.specs.declared.Answer.the-variants.{More as FedMore, Blank, Input as FedInput, Refused as FedRefused}
 use Rattle.openings.specs.Opening.{longest}
 use Rattle.openings.specs.declared.Opening.{Opening}
 use Rattle.walker.specs.Walk.{walked, keeps, readyAt, openedAt, headerMore, headerRead, bodyWalked, trailerWalked, betweenWalked, headerWalked, allowed, walking, ending}

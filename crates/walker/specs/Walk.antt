@@ -16,8 +16,8 @@ use Rattle.maps.specs.declared.Checked.{Checked}
 use Rattle.maps.specs.declared.Checked.the-variants.{Refused as Bad}
 use Rattle.reader.specs.Calls.{checkedRooms, feeding}
 use Rattle.reader.specs.declared.Fed.{Fed}
-use Rattle.reader.specs.declared.Answer.{Answer}
-use Rattle.reader.specs.declared.Answer.the-variants.{More as FedMore, Blank, Input, Refused as FedRefused}
+use Rattle.line_reader.specs.declared.Answer.{Answer}
+use Rattle.line_reader.specs.declared.Answer.the-variants.{More as FedMore, Blank, Input, Refused as FedRefused}
 use Rattle.openings.specs.Opening.{longest, opening}
 use Rattle.openings.specs.declared.Opening.{Opening}
 use Rattle.openings.specs.declared.Opening.the-variants.{Record as Opens, Refused as Shut}

@@ -2,11 +2,11 @@
 pub mod turns;
 
 use leaves::refusals::Refusal;
+use line_reader::Answer;
 use maps::Checked;
 use maps::Head;
 use maps::HeaderMap;
 use openings::Opening;
-use reader::Answer;
 ghost use mathlib.Core.Path.{_≡_};
 ghost use Prim.Native.Nat.{_+_, _≤_};
 ghost use lib.ListN.{length};

@@ -1,7 +1,7 @@
 // A file's header block, read in large pieces.
+use line_reader::Answer;
 use maps::Checked;
 use maps::HeaderMap;
-use reader::Answer;
 use reader::Fed;
 
 // The map of a block, the octets that it took, and what ended it, unless opening or reading its file failed.

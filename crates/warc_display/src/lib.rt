@@ -1,9 +1,9 @@
 // A header block in words: what ended it, its status and fields with their places, and what the three tests say of it.
+use line_reader::Answer;
 use maps::Field;
 use maps::HeaderMap;
 use maps::Place;
 use maps::Status;
-use reader::Answer;
 use tidy::Test;
 use warc_blocks::Head;
 

@@ -1,7 +1,7 @@
 // What becomes of header blocks: one is written rebuilt, two say whether a body may be appended to another.
 use leaves::refusals::Refusal;
+use line_reader::Answer;
 use maps::HeaderMap;
-use reader::Answer;
 use resume::Verdict;
 use writes::Wrote;
 

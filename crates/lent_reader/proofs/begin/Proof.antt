@@ -4,7 +4,7 @@ use mathlib.Core.Path.{sym, _∙_}
 use Prim.Native.Nat.{_-_}
 use Rattle.maps.specs.Heads.{under}
 use Rattle.maps.specs.declared.Checked.the-variants.{Fine, Refused as Refuses}
-use Rattle.reader.proofs.FinishLaws.{begun}
+use Rattle.reader.proofs.CallLaws.{begun}
 use Rattle.lent_reader.proofs.begin.Statement.{statement}
 use Rattle.lent_reader.proofs.begin.Tie as tie
 

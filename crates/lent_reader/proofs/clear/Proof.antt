@@ -2,7 +2,7 @@
 use borrow.Author.Needs.{needs}
 use mathlib.Core.Path.{refl, sym, _∙_}
 use Prim.Native.Nat.{_-_}
-use Rattle.reader.proofs.FinishLaws.{clearing-goes, clearing-stops}
+use Rattle.reader.proofs.CallLaws.{clearing-goes, clearing-stops}
 use Rattle.lent.specs.Table.{mapIn}
 use Rattle.lent_reader.proofs.clear.Statement.{statement}
 use Rattle.lent_reader.proofs.clear.Tie as tie

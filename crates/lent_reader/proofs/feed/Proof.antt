@@ -5,7 +5,7 @@ use Prim.Native.Nat.{_-_}
 use Rattle.maps.proofs.GoodLaws.{ready-of}
 use Rattle.maps.specs.Good.{checkedReading}
 use Rattle.maps.specs.declared.Checked.the-variants.{Fine, Refused as Refuses}
-use Rattle.reader.proofs.FinishLaws.{feeding-goes, feeding-stops}
+use Rattle.reader.proofs.CallLaws.{feeding-goes, feeding-stops}
 use Rattle.lent.specs.Table.{mapIn}
 use Rattle.lent_reader.proofs.feed.Statement.{statement}
 use Rattle.lent_reader.proofs.feed.Tie as tie

@@ -4,7 +4,7 @@ use mathlib.Core.Path.{_≡_, refl, sym, _∙_}
 use Rattle.maps.proofs.GoodLaws.{ready-of}
 use Rattle.maps.specs.Good.{checkedReading}
 use Rattle.maps.specs.declared.Checked.the-variants.{Fine, Refused as Refuses}
-use Rattle.reader.proofs.FinishLaws.{finishing-goes, finishing-stops}
+use Rattle.reader.proofs.CallLaws.{finishing-goes, finishing-stops}
 use Rattle.lent.specs.Table.{mapIn}
 use Rattle.lent_reader.proofs.finish.Statement.{statement}
 use Rattle.lent_reader.proofs.finish.Tie as tie

@@ -9,9 +9,9 @@ use Rattle.leaves.proofs.ChoiceLaws.{by-if}
 use Rattle.leaves.specs.Refusals.{refusal}
 use Rattle.folds.specs.declared.Change.{Change}
 use Rattle.folds.specs.declared.Change.the-variants.{Nothing, Status as Headed, Put, Refused as Stops}
-use Rattle.reader.specs.Reading.{Rules, Reading, goes, lined, ruled, closed, put, stopped, step, fed, finished}
-use Rattle.reader.specs.declared.Answer.{Answer}
-use Rattle.reader.specs.declared.Answer.the-variants.{More, Blank, Input, Refused}
+use Rattle.line_reader.specs.Reading.{Rules, Reading, goes, lined, ruled, closed, put, stopped, step, fed, finished}
+use Rattle.line_reader.specs.declared.Answer.{Answer}
+use Rattle.line_reader.specs.declared.Answer.the-variants.{More, Blank, Input, Refused}
 
 -- an octet goes into the block
 abbrev pub taken : Reading → ℕ → Reading
