@@ -1,0 +1,167 @@
+// The words that ask a map, a pair of maps or octets.
+use crate::memory;
+use crate::told;
+use crate::told::Told;
+
+// The words `v`, `k` and `t` show no octets where there are none to show.
+fn shown(word: u8, answer: u32) -> u32 {
+    match word {
+        b'H' => answer,
+        _ => match answer {
+            told::IN_STORE => told::IN_STORE,
+            _ => told::IN_BLOCK,
+        },
+    }
+}
+
+// The words that show octets of a map.
+fn of_place(word: u8, head: &[u64], table: &[u32], block: &[u8], store: &[u8], i: usize) -> Told {
+    let mut a: u64 = 0;
+    let mut b: u64 = 0;
+    let answer = match word {
+        b'v' => abi::looking::bisquecrow_value(head, table, block, store, i, &mut a, &mut b),
+        b'k' => abi::looking::bisquecrow_key(head, table, block, store, i, &mut a, &mut b),
+        b't' => abi::looking::bisquecrow_status(head, table, block, store, &mut a, &mut b),
+        _ => abi::looking::bisquecrow_reason(head, table, block, store, &mut a, &mut b),
+    };
+    told::part(shown(word, answer), a, b)
+}
+
+// The words that are told a number of a map, and the clean test.
+fn of_map<'a>(word: u8, head: &[u64], table: &[u32], block: &'a [u8], store: &'a [u8]) -> Told {
+    let mut n: u64 = 0;
+    let answer = match word {
+        b'h' => abi::telling::bisquecrow_status_code(head, table, block, store, &mut n),
+        b'y' => abi::telling::bisquecrow_record_type(head, table, block, store, &mut n),
+        _ => abi::telling::bisquecrow_clean(head, table, block, store),
+    };
+    told::part(answer, n, 0)
+}
+
+// The number of the field that was found.
+fn found(answer: u32) -> u32 {
+    match answer {
+        told::IN_BLOCK | told::IN_STORE => told::FOUND,
+        _ => answer,
+    }
+}
+
+fn find<'a>(
+    head: &[u64],
+    table: &[u32],
+    block: &'a [u8],
+    store: &'a [u8],
+    name: &[u8],
+    i: usize,
+) -> Told {
+    let mut n: u64 = 0;
+    let mut a: u64 = 0;
+    let mut b: u64 = 0;
+    let answer = abi::looking::bisquecrow_find(
+        head,
+        table,
+        block,
+        store,
+        name,
+        i,
+        &mut n,
+        &mut a,
+        &mut b,
+    );
+    told::part(found(answer), n, 0)
+}
+
+// The words that ask octets.
+fn of_octets(word: u8, numbers: [usize; 8], one: &[u8]) -> Told {
+    match word {
+        b'l' => told::part(told::FOUND, leaves::lengths::content_length(one), 0),
+        b'T' => told::plain(abi::telling::bisquecrow_tidy(
+            one,
+            numbers[0] == 1,
+            numbers[1] == 1,
+            numbers[2],
+        )),
+        _ => told::plain(abi::telling::bisquecrow_grammatical(one)),
+    }
+}
+
+pub fn ask<'a>(
+    word: u8,
+    numbers: [usize; 8],
+    head: &[u64],
+    table: &[u32],
+    block: &'a [u8],
+    store: &'a [u8],
+    one: &[u8],
+) -> Told {
+    match word {
+        b'v' | b'k' | b't' | b'H' => of_place(word, head, table, block, store, numbers[0]),
+        b'h' | b'y' | b'C' => of_map(word, head, table, block, store),
+        b'g' => find(head, table, block, store, one, numbers[1]),
+        b'l' | b'T' | b'G' => of_octets(word, numbers, one),
+        b'd' => told::plain(told::MAP),
+        _ => told::plain(told::DONE),
+    }
+}
+
+// The words of the kept map and the map.
+pub fn pair<'a>(
+    word: u8,
+    kept_head: &[u64],
+    kept_table: &[u32],
+    kept_block: &'a [u8],
+    kept_store: &'a [u8],
+    head: &[u64],
+    table: &[u32],
+    block: &'a [u8],
+    store: &'a [u8],
+) -> Told {
+    match word {
+        b'e' => told::plain(abi::telling::bisquecrow_equal(
+            kept_head,
+            kept_table,
+            kept_block,
+            kept_store,
+            head,
+            table,
+            block,
+            store,
+        )),
+        _ => told::plain(abi::telling::bisquecrow_resume(
+            kept_head,
+            kept_table,
+            kept_block,
+            kept_store,
+            head,
+            table,
+            block,
+            store,
+        )),
+    }
+}
+
+fn sheet(answer: u32, n: usize, count: u64) -> Told {
+    if answer == told::DONE {
+        return told::counted(told::SHEET, 0, n as u64, count);
+    }
+    told::plain(answer)
+}
+
+// The words that write, into an output that is blank.
+pub fn write<'a>(
+    word: u8,
+    head: &[u64],
+    table: &[u32],
+    block: &'a [u8],
+    store: &'a [u8],
+    out: &mut [u8],
+) -> Told {
+    let mut count: u64 = 0;
+    let n = out.len();
+    memory::fill(out, memory::BLANK);
+    let answer = match word {
+        b'w' => abi::writing::bisquecrow_write(head, table, block, store, out, &mut count),
+        _ => abi::writing::bisquecrow_rebuild(head, table, block, store, out, &mut count),
+    };
+    sheet(answer, n, count)
+}
