@@ -1,5 +1,6 @@
 // The words that ask a map, a pair of maps or octets.
 use crate::memory;
+use crate::state::State;
 use crate::told;
 use crate::told::Told;
 
@@ -24,7 +25,7 @@ fn of_place(word: u8, head: &[u64], table: &[u32], block: &[u8], store: &[u8], i
         b't' => abi::looking::bisquecrow_status(head, table, block, store, &mut a, &mut b),
         _ => abi::looking::bisquecrow_reason(head, table, block, store, &mut a, &mut b),
     };
-    told::part(shown(word, answer), a, b)
+    told::told(shown(word, answer), a, b, 0)
 }
 
 // The words that are told a number of a map, and the clean test.
@@ -35,7 +36,7 @@ fn of_map<'a>(word: u8, head: &[u64], table: &[u32], block: &'a [u8], store: &'a
         b'y' => abi::telling::bisquecrow_record_type(head, table, block, store, &mut n),
         _ => abi::telling::bisquecrow_clean(head, table, block, store),
     };
-    told::part(answer, n, 0)
+    told::told(answer, n, 0, 0)
 }
 
 // The number of the field that was found.
@@ -68,13 +69,13 @@ fn find<'a>(
         &mut a,
         &mut b,
     );
-    told::part(found(answer), n, 0)
+    told::told(found(answer), n, 0, 0)
 }
 
 // The words that ask octets.
 fn of_octets(word: u8, numbers: [usize; 8], one: &[u8]) -> Told {
     match word {
-        b'l' => told::part(told::FOUND, leaves::lengths::content_length(one), 0),
+        b'l' => told::told(told::FOUND, leaves::lengths::content_length(one), 0, 0),
         b'T' => told::plain(abi::telling::bisquecrow_tidy(
             one,
             numbers[0] == 1,
@@ -100,12 +101,15 @@ pub fn ask<'a>(
         b'g' => find(head, table, block, store, one, numbers[1]),
         b'l' | b'T' | b'G' => of_octets(word, numbers, one),
         b'd' => told::plain(told::MAP),
+        b'm' => told::told(told::LOANS, numbers[0] as u64, numbers[1] as u64, 0),
+        b'?' => told::told(told::COLUMN, numbers[0] as u64, 0, 0),
         _ => told::plain(told::DONE),
     }
 }
 
-// The words of the kept map and the map.
-pub fn pair<'a>(
+// The words of the kept map and the map; what others answered stays.
+fn pair<'a>(
+    t: Told,
     word: u8,
     kept_head: &[u64],
     kept_table: &[u32],
@@ -127,7 +131,7 @@ pub fn pair<'a>(
             block,
             store,
         )),
-        _ => told::plain(abi::telling::bisquecrow_resume(
+        b'R' => told::plain(abi::telling::bisquecrow_resume(
             kept_head,
             kept_table,
             kept_block,
@@ -137,18 +141,12 @@ pub fn pair<'a>(
             block,
             store,
         )),
+        _ => t,
     }
 }
 
-fn sheet(answer: u32, n: usize, count: u64) -> Told {
-    if answer == told::DONE {
-        return told::counted(told::SHEET, 0, n as u64, count);
-    }
-    told::plain(answer)
-}
-
-// The words that write, into an output that is blank.
-pub fn write<'a>(
+// Writes into an output that is blank.
+fn put<'a>(
     word: u8,
     head: &[u64],
     table: &[u32],
@@ -163,5 +161,55 @@ pub fn write<'a>(
         b'w' => abi::writing::bisquecrow_write(head, table, block, store, out, &mut count),
         _ => abi::writing::bisquecrow_rebuild(head, table, block, store, out, &mut count),
     };
-    sheet(answer, n, count)
+    if answer == told::DONE {
+        return told::told(told::SHEET, 0, n as u64, count);
+    }
+    told::plain(answer)
+}
+
+// The words that write; what others answered stays.
+fn write<'a>(
+    t: Told,
+    word: u8,
+    head: &[u64],
+    table: &[u32],
+    block: &'a [u8],
+    store: &'a [u8],
+    out: &mut [u8],
+) -> Told {
+    match word {
+        b'w' | b'W' => put(word, head, table, block, store, out),
+        _ => t,
+    }
+}
+
+// What the words answer that look at the kept map or write, on the memory that the loans of both maps are in, and the desk.
+pub fn answered<'a>(
+    t: Told,
+    word: u8,
+    n: usize,
+    kept_head: &[u64; 13],
+    kept_table: &[u32; 1024],
+    head: &[u64; 13],
+    table: &[u32; 1024],
+    block: &'a [u8; 140000],
+    store: &'a [u8; 140000],
+    desk: &mut [u8; 140000],
+    s: State,
+) -> Told {
+    let b = memory::front(block, s.block);
+    let c = memory::front(store, s.store);
+    let paired = pair(
+        t,
+        word,
+        kept_head,
+        kept_table,
+        memory::second(block, s.kept_block),
+        memory::second(store, s.kept_store),
+        head,
+        table,
+        b,
+        c,
+    );
+    write(paired, word, head, table, b, c, memory::lend(desk, n))
 }

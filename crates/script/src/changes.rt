@@ -1,19 +1,24 @@
 // The words that leave another map or walker. Each function takes as few memories to write into as it can.
+use crate::asks;
 use crate::damages;
+use crate::memory;
 use crate::orders::END;
+use crate::orders::Laid;
 use crate::orders::START;
+use crate::orders::WALK;
+use crate::state::State;
 use crate::told;
 use crate::told::Told;
 
-// The words that make a map or a walker, and those that end, clear or damage one.
-pub fn plain<'a>(
+// The words that begin and clear a map, or begin and end a walk.
+fn make(
     word: u8,
     numbers: [usize; 8],
-    trail: &mut [u64; 4],
-    head: &mut [u64; 13],
-    table: &mut [u32; 1024],
-    block: &'a [u8],
-    store: &'a [u8],
+    trail: &mut [u64],
+    head: &mut [u64],
+    table: &[u32],
+    block: &[u8],
+    store: &[u8],
 ) -> u32 {
     match word {
         b'b' => abi::reading::bisquecrow_begin(
@@ -36,16 +41,12 @@ pub fn plain<'a>(
             block,
             store,
         ),
-        END => abi::walking::bisquecrow_end(trail, head, table, block, store),
-        _ => {
-            damages::damage(numbers, trail, head, table);
-            told::DONE
-        }
+        _ => abi::walking::bisquecrow_end(trail, head, table, block, store),
     }
 }
 
 // The words that edit a map, and `F`.
-pub fn edit(
+fn edit(
     word: u8,
     head: &mut [u64],
     table: &mut [u32],
@@ -63,7 +64,7 @@ pub fn edit(
     }
 }
 
-pub fn feed(
+fn feed(
     head: &mut [u64],
     table: &mut [u32],
     block: &mut [u8],
@@ -72,18 +73,19 @@ pub fn feed(
 ) -> Told {
     let mut taken: u64 = 0;
     let answer = abi::reading::bisquecrow_feed(head, table, block, store, piece, &mut taken);
-    told::counted(answer, 0, 0, taken)
+    told::told(answer, 0, 0, taken)
 }
 
-// One call of a walker on the rest of a piece, from a place on.
-pub fn walk(
+// One call of a walker on the rest of a piece of n octets, of which so many were walked.
+fn walk(
     trail: &mut [u64],
     head: &mut [u64],
     table: &mut [u32],
     block: &mut [u8],
     store: &mut [u8],
-    piece: &[u8],
-    from: usize,
+    rest: &[u8],
+    walked: usize,
+    n: usize,
 ) -> Told {
     let mut taken: u64 = 0;
     let mut record = [0u64; 4];
@@ -93,9 +95,85 @@ pub fn walk(
         table,
         block,
         store,
-        piece,
+        rest,
         &mut taken,
         &mut record,
     );
-    told::walked(answer, from, taken, record)
+    told::walked(answer, walked, taken, n, record)
+}
+
+// What a word is to a map.
+const ASKS: u8 = 0;
+
+const MAKES: u8 = 1;
+
+const EDITS: u8 = 2;
+
+const FEEDS: u8 = 3;
+
+const WALKS: u8 = 4;
+
+const DAMAGES: u8 = 5;
+
+fn group_of(word: u8) -> u8 {
+    match word {
+        b'b' | b'c' | START | END => MAKES,
+        b's' | b'a' | b'r' | b'u' | b'F' => EDITS,
+        b'f' => FEEDS,
+        WALK => WALKS,
+        b'x' => DAMAGES,
+        _ => ASKS,
+    }
+}
+
+// What a word does to the map and its loans, or asks of them. Of its first octets, n, so many were walked.
+fn act(
+    word: u8,
+    numbers: [usize; 8],
+    trail: &mut [u64],
+    head: &mut [u64],
+    table: &mut [u32],
+    block: &mut [u8],
+    store: &mut [u8],
+    one: &[u8],
+    two: &[u8],
+    walked: usize,
+    n: usize,
+) -> Told {
+    match group_of(word) {
+        MAKES => told::plain(make(word, numbers, trail, head, table, block, store)),
+        EDITS => told::plain(edit(word, head, table, block, store, one, two)),
+        FEEDS => feed(head, table, block, store, one),
+        WALKS => walk(trail, head, table, block, store, one, walked, n),
+        DAMAGES => told::plain(damages::damage(numbers, trail, head, table)),
+        _ => asks::ask(word, numbers, head, table, block, store, one),
+    }
+}
+
+// The same on the memory that the loans are in, and the desk.
+pub fn acted(
+    word: u8,
+    numbers: [usize; 8],
+    trail: &mut [u64; 4],
+    head: &mut [u64; 13],
+    table: &mut [u32; 1024],
+    block: &mut [u8; 140000],
+    store: &mut [u8; 140000],
+    desk: &[u8; 140000],
+    s: State,
+    n: Laid,
+) -> Told {
+    act(
+        word,
+        numbers,
+        trail,
+        head,
+        table,
+        memory::lend(block, s.block),
+        memory::lend(store, s.store),
+        memory::part(desk, s.walked as u64, n.one as u64),
+        memory::second(desk, n.two),
+        s.walked,
+        n.one,
+    )
 }

@@ -1,79 +1,69 @@
-// The word `x`: a number of a map or a walker overwritten where it stands.
+// The word `x`: numbers of a map or a walker overwritten where they stand.
 use crate::names;
 
-fn put(numbers: &mut [u64], i: usize, x: u64) {
+fn put(numbers: &mut [u64], i: usize, x: usize) {
     if i < numbers.len() {
-        numbers[i] = x;
+        numbers[i] = x as u64;
     }
 }
 
-fn put_status(head: &mut [u64; 13], kind: u64, from: u64, to: u64) {
-    head[6] = kind;
-    head[7] = from;
-    head[8] = to;
+// A number of a head; the status has three.
+fn put_head(head: &mut [u64], numbers: [usize; 8]) {
+    let part = numbers[0];
+    put(head, part, numbers[1]);
+    if part == names::STATUS {
+        put(head, 7, numbers[2]);
+        put(head, 8, numbers[3]);
+    }
 }
 
 // In a table, offsets of the store begin at this number.
-pub const STORE: u64 = 2147483648;
+const STORE: usize = 2147483648;
 
 // How a place begins in a table. An offset that has no room there is one that no loan has.
-fn first_of(kind: usize, from: u64) -> u32 {
+fn first_of(kind: usize, from: usize) -> usize {
     if from >= STORE {
         return 4294967295;
     }
     if kind == 1 {
-        return from as u32;
+        return from;
     }
-    (from + STORE) as u32
+    from + STORE
 }
 
-fn last_of(to: u64) -> u32 {
-    if to <= 4294967295 {
-        return to as u32;
-    }
-    4294967295
-}
-
-// The place of the field i from the number k of its four on.
-fn put_place(table: &mut [u32; 1024], i: usize, k: usize, from: u32, to: u32) {
-    if i < 256 {
-        if k < 3 {
-            table[i * 4 + k] = from;
-            table[i * 4 + k + 1] = to;
+fn put_number(table: &mut [u32], i: usize, x: usize) {
+    if i < table.len() {
+        if x <= 4294967295 {
+            table[i] = x as u32;
         }
     }
 }
 
-pub fn damage(
-    numbers: [usize; 8],
-    trail: &mut [u64; 4],
-    head: &mut [u64; 13],
-    table: &mut [u32; 1024],
-) {
-    let part = numbers[0];
-    match part {
-        names::STATUS => put_status(
-            head,
-            numbers[1] as u64,
-            numbers[2] as u64,
-            numbers[3] as u64,
-        ),
-        names::KEY => put_place(
-            table,
-            numbers[1],
-            0,
-            first_of(numbers[2], numbers[3] as u64),
-            last_of(numbers[4] as u64),
-        ),
-        names::VALUE => put_place(
-            table,
-            numbers[1],
-            2,
-            first_of(numbers[2], numbers[3] as u64),
-            last_of(numbers[4] as u64),
-        ),
-        names::POSITION => put(trail, 0, numbers[1] as u64),
-        names::REST => put(trail, 1, numbers[1] as u64),
-        _ => put(head, part, numbers[1] as u64),
+// The index in a table of the first number of a key or a value; past the table for other parts.
+fn in_table(part: usize, i: usize) -> usize {
+    if i >= 256 {
+        return 1024;
     }
+    match part {
+        names::KEY => i * 4,
+        names::VALUE => i * 4 + 2,
+        _ => 1024,
+    }
+}
+
+fn put_place(table: &mut [u32], numbers: [usize; 8]) {
+    let i = in_table(numbers[0], numbers[1]);
+    put_number(table, i, first_of(numbers[2], numbers[3]));
+    put_number(table, std::num::wrapping_add_usize(i, 1), numbers[4]);
+}
+
+pub fn damage(numbers: [usize; 8], trail: &mut [u64], head: &mut [u64], table: &mut [u32]) -> u32 {
+    put(
+        trail,
+        std::num::wrapping_sub_usize(numbers[0], names::POSITION),
+        numbers[1],
+    );
+    put_head(head, numbers);
+    put_place(table, numbers);
+    0
 }

@@ -27,6 +27,14 @@ pub fn lend<'a>(s: &'a mut [u8], n: usize) -> &'a mut [u8] {
     s
 }
 
+// What lies behind a loan, to write into.
+pub fn lend_second<'a>(s: &'a mut [u8]) -> &'a mut [u8] {
+    if LOAN <= s.len() {
+        return &mut s[LOAN..];
+    }
+    s
+}
+
 // The octets from one place to before another; none where there are no such.
 pub fn part<'a>(s: &'a [u8], from: u64, to: u64) -> &'a [u8] {
     let a = from as usize;
@@ -64,23 +72,16 @@ pub fn is_touched(loan: &[u8], from: usize) -> bool {
     false
 }
 
-// Copies one octet, where there are both.
-fn copy(s: &mut [u8], from: usize, to: usize) {
-    if from < s.len() {
-        if to < s.len() {
-            let x = s[from];
-            s[to] = x;
-        }
-    }
-}
-
 // Copies n octets from one place on to another, the first first, as far as there are both.
 pub fn shift(s: &mut [u8], from: usize, to: usize, n: usize) {
     for k in 0..n {
-        copy(
-            s,
-            std::num::wrapping_add_usize(from, k),
-            std::num::wrapping_add_usize(to, k),
-        );
+        let i = std::num::wrapping_add_usize(from, k);
+        let j = std::num::wrapping_add_usize(to, k);
+        if i < s.len() {
+            if j < s.len() {
+                let x = s[i];
+                s[j] = x;
+            }
+        }
     }
 }

@@ -1,37 +1,49 @@
 // A word of a line with its arguments, as numbers.
+use crate::inputs;
+use crate::inputs::Input;
+use crate::memory;
 use crate::memory::LOAN;
 use crate::memory::OUTPUT;
 use crate::names;
 use crate::numbers;
 use crate::numbers::Number;
 
-// The words of two letters, `ws`, `wf` and `wF`; those of one are that letter.
+// The words of two letters, `ws`, `wf` and `wF`; those of one are that letter. `\n` is the end of a line, `?` what makes no sense, and 0 nothing.
 pub const START: u8 = 1;
 
 pub const WALK: u8 = 2;
 
 pub const END: u8 = 3;
 
-// What was read: a word; what makes no sense, at the place `at`, where it is not good; or the end of the line, where the word is 0. `at` is behind a good
-// word. The numbers are its arguments one after the other: of octets in hex the place where they begin. The shape is what is still to be read.
+// A word, and the place behind it. The numbers are its arguments one after the other: of octets in hex the place where they begin; of what makes
+// no sense the column.
 pub struct Order {
     pub at: usize,
-    pub good: bool,
     pub word: u8,
-    pub shape: u32,
-    pub count: usize,
     pub numbers: [usize; 8],
 }
 
-fn bare(at: usize, good: bool, word: u8, shape: u32) -> Order {
+fn bare(at: usize, word: u8) -> Order {
     Order {
         at,
-        good,
         word,
-        shape,
-        count: 0,
         numbers: [0; 8],
     }
+}
+
+fn nonsense(at: usize) -> Order {
+    let mut o = bare(at, b'?');
+    o.numbers[0] = numbers::next(at);
+    o
+}
+
+// Arguments that were read, up to the place `at`, where they make no sense if they are not good; and the shape of those that are still to be read.
+struct Given {
+    pub at: usize,
+    pub good: bool,
+    pub shape: u32,
+    pub count: usize,
+    pub numbers: [usize; 8],
 }
 
 // A word's arguments, a digit for each, the last one's first: 1 a number; 2 octets; 3 and 4 a flag, behind a space and right behind;
@@ -122,36 +134,38 @@ fn signed(line: &[u8], at: usize, kind: u32) -> Number {
     numbers::made(0, at, false)
 }
 
-fn with(o: Order, n: Number) -> Order {
-    let mut o = o;
-    let k = o.count;
-    o.at = n.at;
-    o.good = n.good;
+fn with(r: Given, n: Number) -> Given {
+    let mut r = r;
+    let k = r.count;
+    r.at = n.at;
+    r.good = n.good;
     if k < 8 {
-        o.numbers[k] = n.value;
-        o.count = k + 1;
+        r.numbers[k] = n.value;
+        r.count = k + 1;
     }
-    o.shape = shape_behind(o.shape, n.value);
-    o
+    r.shape = shape_behind(r.shape, n.value);
+    r
 }
 
-fn is_read(o: Order) -> bool {
-    if o.good {
-        return o.shape == 0;
-    }
-    true
-}
-
-// All arguments.
-fn with_arguments(line: &[u8], o: Order) -> Order {
-    let mut o = o;
+// The arguments of a shape from a place on.
+fn arguments(line: &[u8], at: usize, shape: u32) -> Given {
+    let mut r = Given {
+        at,
+        good: true,
+        shape,
+        count: 0,
+        numbers: [0; 8],
+    };
     for _ in 0..8 {
-        if is_read(o) {
-            return o;
+        if r.shape == 0 {
+            return r;
         }
-        o = with(o, signed(line, o.at, o.shape % 10));
+        r = with(r, signed(line, r.at, r.shape % 10));
+        if !r.good {
+            return r;
+        }
     }
-    o
+    r
 }
 
 // Whether the lengths that a word names can be lent, and the offsets can stand in a map.
@@ -177,26 +191,26 @@ fn ends_word(x: u8) -> bool {
     }
 }
 
-// Whether a word that was read has nothing behind it but its end, and fits.
-fn is_whole(line: &[u8], o: Order) -> bool {
-    let numbers = o.numbers;
-    if o.good {
-        if ends_word(numbers::character(line, o.at)) {
-            return fits(o.word, numbers);
-        }
-    }
-    false
-}
-
-// A word of the letters from a place on, which are two or, the second being 0, one.
+// A word and its arguments from a place on; its letters stand before it, from another place on.
 fn named(line: &[u8], from: usize, at: usize, word: u8) -> Order {
     let shape = shape_of(word);
     if shape == UNKNOWN {
-        return bare(from, false, 0, 0);
+        return nonsense(from);
     }
-    let mut o = with_arguments(line, bare(at, true, word, shape));
-    o.good = is_whole(line, o);
-    o
+    let r = arguments(line, at, shape);
+    let numbers = r.numbers;
+    if r.good {
+        if ends_word(numbers::character(line, r.at)) {
+            if fits(word, numbers) {
+                return Order {
+                    at: r.at,
+                    word,
+                    numbers,
+                };
+            }
+        }
+    }
+    nonsense(r.at)
 }
 
 fn of_two(letter: u8, second: u8) -> u8 {
@@ -223,50 +237,66 @@ fn word(line: &[u8], at: usize) -> Order {
     named(line, at, numbers::next(behind), of_two(letter, second))
 }
 
-// Reads on at a place: the start of a line, or the end of a word.
-pub fn read(line: &[u8], at: usize) -> Order {
-    if at >= line.len() {
-        return bare(at, true, 0, 0);
-    }
-    if at == 0 {
-        return word(line, at);
-    }
-    word(line, numbers::next(at))
-}
-
-pub fn is_word(o: Order) -> bool {
-    if o.good {
-        return o.word != 0;
-    }
-    false
-}
-
-// Lays the first octets of a word's arguments: how many they are.
-pub fn lay_first(line: &[u8], o: Order, desk: &mut [u8]) -> usize {
-    let word = o.word;
-    let numbers = o.numbers;
-    match word {
-        b'f' | b'r' | b'u' | b'l' | b'G' | b's' | b'a' | b'g' | WALK => numbers::lay(
-            line,
-            numbers[0],
-            crate::memory::lend(desk, LOAN),
-        ),
-        b'T' => numbers::lay(line, numbers[3], crate::memory::lend(desk, LOAN)),
-        _ => 0,
-    }
-}
-
-// Lays the second ones behind a loan.
-pub fn lay_second(line: &[u8], o: Order, desk: &mut [u8]) -> usize {
-    let word = o.word;
-    let numbers = o.numbers;
-    match word {
-        b's' | b'a' => {
-            if LOAN <= desk.len() {
-                return numbers::lay(line, numbers[1], &mut desk[LOAN..]);
-            }
-            0
+// Reads on at a place: the start of a line, or the end of a word. Nothing is read where there is no line.
+pub fn read(typed: &[u8; 1048576], c: Input, at: usize) -> Order {
+    let line = inputs::line(typed, c);
+    if at < line.len() {
+        if at == 0 {
+            return word(line, at);
         }
-        _ => 0,
+        return word(line, numbers::next(at));
     }
+    if c.ready {
+        return bare(at, b'\n');
+    }
+    bare(at, 0)
+}
+
+pub fn ends_line(word: u8) -> bool {
+    match word {
+        b'\n' | b'?' => true,
+        _ => false,
+    }
+}
+
+// Where the octets begin that are a word's first, and its second; past every line for none.
+fn first_octets(word: u8, numbers: [usize; 8]) -> usize {
+    match word {
+        b'f' | b'r' | b'u' | b'l' | b'G' | b's' | b'a' | b'g' | WALK => numbers[0],
+        b'T' => numbers[3],
+        _ => NOWHERE,
+    }
+}
+
+fn second_octets(word: u8, numbers: [usize; 8]) -> usize {
+    match word {
+        b's' | b'a' => numbers[1],
+        _ => NOWHERE,
+    }
+}
+
+const NOWHERE: usize = 18446744073709551615;
+
+// How many octets were laid.
+pub struct Laid {
+    pub one: usize,
+    pub two: usize,
+}
+
+// Lays the octets of a word's arguments, the second behind a loan.
+pub fn lay(
+    typed: &[u8; 1048576],
+    c: Input,
+    word: u8,
+    numbers: [usize; 8],
+    desk: &mut [u8; 140000],
+) -> Laid {
+    let line = inputs::line(typed, c);
+    let one = numbers::lay(line, first_octets(word, numbers), memory::lend(desk, LOAN));
+    let two = numbers::lay(
+        line,
+        second_octets(word, numbers),
+        memory::lend_second(desk),
+    );
+    Laid { one, two }
 }

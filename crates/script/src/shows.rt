@@ -1,37 +1,15 @@
 // How answers are printed.
-use crate::damages::STORE;
 use crate::memory;
+use crate::state;
+use crate::state::State;
 use crate::told;
 use crate::told::Told;
 
 // The most characters of a text.
 const LENGTH: usize = 8;
 
-// A character of a text, or a number where `#` stands.
-fn character(said: &mut [u8], at: usize, x: u8, n: u64) -> usize {
-    if x == b'#' {
-        return prints::decimal(said, at, n);
-    }
-    prints::character(said, at, x)
-}
-
-fn pick(numbers: [u64; 3], k: usize) -> u64 {
-    if k < 3 {
-        return numbers[k];
-    }
-    0
-}
-
-// How many numbers were named up to a character.
-fn named(k: usize, x: u8) -> usize {
-    if x == b'#' {
-        return std::num::wrapping_add_usize(k, 1);
-    }
-    k
-}
-
 // A text, with its numbers.
-pub fn text(said: &mut [u8], at: usize, letters: u64, numbers: [u64; 3]) -> usize {
+fn text(said: &mut [u8], at: usize, letters: u64, numbers: [u64; 3]) -> usize {
     let mut at = at;
     let mut rest = letters;
     let mut k = 0;
@@ -40,97 +18,70 @@ pub fn text(said: &mut [u8], at: usize, letters: u64, numbers: [u64; 3]) -> usiz
             return at;
         }
         let x = (rest % 256) as u8;
-        at = character(said, at, x, pick(numbers, k));
-        k = named(k, x);
         rest = rest / 256;
+        if x == b'#' {
+            if k < 3 {
+                at = prints::decimal(said, at, numbers[k]);
+                k = k + 1;
+            }
+        } else {
+            at = prints::character(said, at, x);
+        }
     }
     at
 }
 
+// A place with its octets, as `b0.1=41`.
+fn place(said: &mut [u8], at: usize, letters: u64, from: u64, to: u64, loan: &[u8]) -> usize {
+    let behind = text(said, at, letters, [from, to, 0]);
+    prints::octets(said, behind, memory::part(loan, from, to))
+}
+
 // `b#.#=` and `s#.#=`.
-fn bounds(in_store: bool) -> u64 {
-    if in_store {
-        return 262583231347;
-    }
-    262583231330
-}
+const BLOCK_PLACE: u64 = 262583231330;
 
-fn octets_of<'a>(in_store: bool, from: u64, to: u64, block: &'a [u8], store: &'a [u8]) -> &'a [u8] {
-    if in_store {
-        return memory::part(store, from, to);
-    }
-    memory::part(block, from, to)
-}
+const STORE_PLACE: u64 = 262583231347;
 
-// A place with its octets, as `b0.1=41`, behind a sign, 0 for none.
-fn place<'a>(
-    said: &mut [u8],
-    at: usize,
-    sign: u64,
-    in_store: bool,
-    from: u64,
-    to: u64,
-    block: &'a [u8],
-    store: &'a [u8],
-) -> usize {
-    let a = text(said, at, sign, [0; 3]);
-    let b = text(said, a, bounds(in_store), [from, to, 0]);
-    prints::octets(said, b, octets_of(in_store, from, to, block, store))
-}
-
-// The offset that a number of a table is.
-fn offset(n: u64) -> u64 {
-    if n < STORE {
-        return n;
-    }
-    n - STORE
-}
-
-// What stands before the place k of a list of fields.
-fn sign_of(k: usize) -> u64 {
+// How the place k of a list of fields is said: behind `:` a value, behind `;` a key, but the first.
+fn text_of_place(k: usize, in_store: bool) -> u64 {
+    let letters = if in_store { STORE_PLACE } else { BLOCK_PLACE };
     if k == 0 {
-        return 0;
+        return letters;
     }
-    if k % 2 == 1 {
-        return 58;
-    }
-    59
+    letters * 256 + 59 - ((k % 2) as u64)
 }
 
 // The place k of a table.
-fn place_of<'a>(
+fn place_of(
     said: &mut [u8],
     at: usize,
     table: &[u32; 1024],
     k: usize,
-    block: &'a [u8],
-    store: &'a [u8],
+    block: &[u8],
+    store: &[u8],
 ) -> usize {
     if k < 512 {
         let from = table[k * 2] as u64;
         let to = table[k * 2 + 1] as u64;
-        return place(
-            said,
-            at,
-            sign_of(k),
-            from >= STORE,
-            offset(from),
-            to,
-            block,
-            store,
-        );
+        if from < STORE {
+            return place(said, at, text_of_place(k, false), from, to, block);
+        }
+        return place(said, at, text_of_place(k, true), from - STORE, to, store);
     }
     at
 }
 
+// In a table, offsets of the store begin at this number.
+const STORE: u64 = 2147483648;
+
 // The first n fields.
-fn list<'a>(
+fn list(
     said: &mut [u8],
     at: usize,
     table: &[u32; 1024],
     n: u64,
-    block: &'a [u8],
-    store: &'a [u8],
+    block: &[u8],
+    store: &[u8],
 ) -> usize {
     let mut at = at;
     for k in 0..512 {
@@ -142,21 +93,17 @@ fn list<'a>(
     at
 }
 
-fn status<'a>(
-    said: &mut [u8],
-    at: usize,
-    head: &[u64; 13],
-    block: &'a [u8],
-    store: &'a [u8],
-) -> usize {
-    if head[6] == 0 {
-        return prints::character(said, at, b'-');
+fn status(said: &mut [u8], at: usize, head: &[u64; 13], block: &[u8], store: &[u8]) -> usize {
+    let kind = head[6];
+    match kind {
+        0 => prints::character(said, at, b'-'),
+        1 => place(said, at, BLOCK_PLACE, head[7], head[8], block),
+        _ => place(said, at, STORE_PLACE, head[7], head[8], store),
     }
-    place(said, at, 0, head[6] == 2, head[7], head[8], block, store)
 }
 
 // `R,#,#,#,` and `D,#,#,#,`.
-fn state(phase: u64) -> u64 {
+fn phase_text(phase: u64) -> u64 {
     if phase == 1 {
         return 3180434291429682258;
     }
@@ -164,15 +111,15 @@ fn state(phase: u64) -> u64 {
 }
 
 // Phase, edited, count, line, mark, status, fields.
-fn map<'a>(
+fn map(
     said: &mut [u8],
     at: usize,
     head: &[u64; 13],
     table: &[u32; 1024],
-    block: &'a [u8],
-    store: &'a [u8],
+    block: &[u8],
+    store: &[u8],
 ) -> usize {
-    let a = text(said, at, state(head[12]), [head[11], head[2], head[3]]);
+    let a = text(said, at, phase_text(head[12]), [head[11], head[2], head[3]]);
     let b = text(said, a, 11299, [head[4], 0, 0]); // #,
     let c = status(said, b, head, block, store);
     let d = prints::character(said, c, b',');
@@ -180,13 +127,6 @@ fn map<'a>(
         return prints::character(said, d, b'-');
     }
     list(said, d, table, head[5], block, store)
-}
-
-fn are_touched(block: &[u8], store: &[u8], limit: usize, room: usize) -> bool {
-    if memory::is_touched(block, limit) {
-        return true;
-    }
-    memory::is_touched(store, room)
 }
 
 // The octets up to limit and room, and whether any past them changed.
@@ -202,19 +142,22 @@ fn loans(
     let b = prints::character(said, a, b',');
     let c = prints::octets(said, b, memory::front(store, room));
     let d = prints::character(said, c, b',');
-    prints::flag(said, d, are_touched(block, store, limit, room))
+    if memory::is_touched(block, limit) {
+        return prints::character(said, d, b'1');
+    }
+    prints::flag(said, d, memory::is_touched(store, room))
 }
 
 // What a word answered.
-pub fn say<'a>(
+fn say(
     said: &mut [u8],
     at: usize,
     t: Told,
     word: u8,
     head: &[u64; 13],
     table: &[u32; 1024],
-    block: &'a [u8],
-    store: &'a [u8],
+    block: &[u8],
+    store: &[u8],
     desk: &[u8],
 ) -> usize {
     let answer = t.answer;
@@ -233,4 +176,31 @@ pub fn say<'a>(
         told::LOANS => loans(said, behind, t.a as usize, t.b as usize, block, store),
         _ => behind,
     }
+}
+
+// The same behind what stands before it, on the memory that the loans are in.
+pub fn said_of(
+    said: &mut [u8; 65536],
+    at: usize,
+    t: Told,
+    word: u8,
+    head: &[u64; 13],
+    table: &[u32; 1024],
+    block: &[u8; 140000],
+    store: &[u8; 140000],
+    desk: &[u8; 140000],
+    s: State,
+) -> usize {
+    let behind = text(said, at, state::separator(s, word), [0; 3]);
+    say(
+        said,
+        behind,
+        t,
+        word,
+        head,
+        table,
+        memory::front(block, s.block),
+        memory::front(store, s.store),
+        desk,
+    )
 }

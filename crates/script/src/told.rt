@@ -1,7 +1,8 @@
 // What a word answers, and the texts that say it.
 use crate::orders::WALK;
 
-// The number of an answer, of `abi`'s or of those below; a, b up to e are the numbers that the texts name. Octets that are shown lie from a to before b.
+// The number of an answer, of `abi`'s or of those below; a, b up to e are the numbers that the texts name. Octets that are shown lie from a to before b. On is
+// how much of its piece a word has walked that is to go on over it, else 0.
 pub struct Told {
     pub answer: u32,
     pub a: u64,
@@ -9,6 +10,7 @@ pub struct Told {
     pub c: u64,
     pub d: u64,
     pub e: u64,
+    pub on: usize,
 }
 
 // Answers of `abi` that are looked at here.
@@ -26,22 +28,16 @@ pub const BODY: u32 = 74;
 
 const FIRST: u32 = 64;
 
-// Further answers: octets that were written, c of them; the map; the loans with their limit and room; a content length.
+// Further answers: octets that were written, c of them; the map; the loans with their limit and room; the column of what makes no sense.
 pub const SHEET: u32 = 90;
 
 pub const MAP: u32 = 91;
 
 pub const LOANS: u32 = 92;
 
-pub fn plain(answer: u32) -> Told {
-    part(answer, 0, 0)
-}
+pub const COLUMN: u32 = 93;
 
-pub fn part(answer: u32, a: u64, b: u64) -> Told {
-    counted(answer, a, b, 0)
-}
-
-pub fn counted(answer: u32, a: u64, b: u64, c: u64) -> Told {
+pub fn told(answer: u32, a: u64, b: u64, c: u64) -> Told {
     Told {
         answer,
         a,
@@ -49,11 +45,31 @@ pub fn counted(answer: u32, a: u64, b: u64, c: u64) -> Told {
         c,
         d: 0,
         e: 0,
+        on: 0,
     }
 }
 
-// A record begun, or another answer of a walker that took octets of a piece, from a place of it on.
-pub fn walked(answer: u32, from: usize, taken: u64, record: [u64; 4]) -> Told {
+pub fn plain(answer: u32) -> Told {
+    told(answer, 0, 0, 0)
+}
+
+// How much of a piece was walked by a walker that answered so, if it goes on over the rest of it: 0 if not.
+fn going_on(answer: u32, to: usize, n: usize) -> usize {
+    match answer {
+        64 | RECORD | BODY => {
+            if to < n {
+                return to;
+            }
+            0
+        }
+        _ => 0,
+    }
+}
+
+// What a walker answered on a piece of n octets, from one place to before another.
+pub fn walked(answer: u32, from: usize, taken: u64, n: usize, record: [u64; 4]) -> Told {
+    let to = std::num::wrapping_add_usize(from, taken as usize);
+    let on = going_on(answer, to, n);
     if answer == RECORD {
         return Told {
             answer,
@@ -62,34 +78,22 @@ pub fn walked(answer: u32, from: usize, taken: u64, record: [u64; 4]) -> Told {
             c: record[2],
             d: record[3],
             e: taken,
+            on,
         };
     }
-    counted(
+    Told {
         answer,
-        from as u64,
-        std::num::wrapping_add_u64(from as u64, taken),
-        taken,
-    )
-}
-
-// Whether a walker that answered so goes on.
-pub fn goes_on(answer: u32) -> bool {
-    match answer {
-        64 | RECORD | BODY => true,
-        _ => false,
+        a: from as u64,
+        b: to as u64,
+        c: taken,
+        d: 0,
+        e: 0,
+        on,
     }
-}
-
-// How many octets of its piece a walker took.
-pub fn taken(t: Told) -> usize {
-    if t.answer == RECORD {
-        return t.e as usize;
-    }
-    t.c as usize
 }
 
 // Texts are numbers to the base 256, the first character the lowest; `#` stands for a number.
-// What a word says that was done: `b`, `c`, `x`, `K`, `ok`, `ws`.
+// What a word says that was done: `ok`, `ws`, or its letter.
 fn done(word: u8) -> u64 {
     match word {
         b's' | b'a' | b'r' | b'u' => 27503,
@@ -113,15 +117,9 @@ pub fn text_of(answer: u32, word: u8) -> u64 {
         83 => 51, // 3
         RECORD => 9915547162731890, // rec:#:#
         BODY => 251144728418, // body:
+        COLUMN => 664383, // ?# and LF
         IN_BLOCK | IN_STORE | SHEET | MAP | LOANS => 0,
         _ => 8993, // !#
-    }
-}
-
-fn counts(word: u8) -> u64 {
-    match word {
-        b'f' | WALK => 9018, // :#
-        _ => 0,
     }
 }
 
@@ -131,7 +129,10 @@ pub fn tail_of(answer: u32, word: u8) -> u64 {
         RECORD => 38732606087994, // :#:#:#
         SHEET => 14883, // #:
         BODY => 0,
-        _ => counts(word),
+        _ => match word {
+            b'f' | WALK => 9018, // :#
+            _ => 0,
+        },
     }
 }
 
