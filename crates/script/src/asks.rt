@@ -16,7 +16,14 @@ fn shown(word: u8, answer: u32) -> u32 {
 }
 
 // The words that show octets of a map.
-fn of_place(word: u8, head: &[u64], table: &[u32], block: &[u8], store: &[u8], i: usize) -> Told {
+fn of_place<'a>(
+    word: u8,
+    head: &[u64],
+    table: &[u32],
+    block: &'a [u8],
+    store: &'a [u8],
+    i: usize,
+) -> Told {
     let mut a: u64 = 0;
     let mut b: u64 = 0;
     let answer = match word {
@@ -25,7 +32,7 @@ fn of_place(word: u8, head: &[u64], table: &[u32], block: &[u8], store: &[u8], i
         b't' => abi::looking::bisquecrow_status(head, table, block, store, &mut a, &mut b),
         _ => abi::looking::bisquecrow_reason(head, table, block, store, &mut a, &mut b),
     };
-    told::told(shown(word, answer), a, b, 0)
+    told::numbered(shown(word, answer), a, b, 0)
 }
 
 // The words that are told a number of a map, and the clean test.
@@ -36,7 +43,7 @@ fn of_map<'a>(word: u8, head: &[u64], table: &[u32], block: &'a [u8], store: &'a
         b'y' => abi::telling::bisquecrow_record_type(head, table, block, store, &mut n),
         _ => abi::telling::bisquecrow_clean(head, table, block, store),
     };
-    told::told(answer, n, 0, 0)
+    told::numbered(answer, n, 0, 0)
 }
 
 // The number of the field that was found.
@@ -69,13 +76,13 @@ fn find<'a>(
         &mut a,
         &mut b,
     );
-    told::told(found(answer), n, 0, 0)
+    told::numbered(found(answer), n, 0, 0)
 }
 
 // The words that ask octets.
 fn of_octets(word: u8, numbers: [usize; 8], one: &[u8]) -> Told {
     match word {
-        b'l' => told::told(told::FOUND, leaves::lengths::content_length(one), 0, 0),
+        b'l' => told::numbered(told::FOUND, leaves::lengths::content_length(one), 0, 0),
         b'T' => told::plain(abi::telling::bisquecrow_tidy(
             one,
             numbers[0] == 1,
@@ -101,8 +108,8 @@ pub fn ask<'a>(
         b'g' => find(head, table, block, store, one, numbers[1]),
         b'l' | b'T' | b'G' => of_octets(word, numbers, one),
         b'd' => told::plain(told::MAP),
-        b'm' => told::told(told::LOANS, numbers[0] as u64, numbers[1] as u64, 0),
-        b'?' => told::told(told::COLUMN, numbers[0] as u64, 0, 0),
+        b'm' => told::numbered(told::LOANS, numbers[0] as u64, numbers[1] as u64, 0),
+        b'?' => told::numbered(told::COLUMN, numbers[0] as u64, 0, 0),
         _ => told::plain(told::DONE),
     }
 }
@@ -145,7 +152,15 @@ fn pair<'a>(
     }
 }
 
-// Writes into an output that is blank.
+// How much was written into an output of n octets.
+fn sheet(answer: u32, n: usize, count: u64) -> Told {
+    if answer == told::DONE {
+        return told::numbered(told::SHEET, 0, n as u64, count);
+    }
+    told::plain(answer)
+}
+
+// Writes into an output.
 fn put<'a>(
     word: u8,
     head: &[u64],
@@ -156,18 +171,26 @@ fn put<'a>(
 ) -> Told {
     let mut count: u64 = 0;
     let n = out.len();
-    memory::fill(out, memory::BLANK);
-    let answer = match word {
-        b'w' => abi::writing::bisquecrow_write(head, table, block, store, out, &mut count),
-        _ => abi::writing::bisquecrow_rebuild(head, table, block, store, out, &mut count),
-    };
-    if answer == told::DONE {
-        return told::told(told::SHEET, 0, n as u64, count);
+    match word {
+        b'w' => {
+            let answer = abi::writing::bisquecrow_write(head, table, block, store, out, &mut count);
+            sheet(answer, n, count)
+        }
+        _ => {
+            let answer = abi::writing::bisquecrow_rebuild(
+                head,
+                table,
+                block,
+                store,
+                out,
+                &mut count,
+            );
+            sheet(answer, n, count)
+        }
     }
-    told::plain(answer)
 }
 
-// The words that write; what others answered stays.
+// The words that write, into an output that is blank; what others answered stays.
 fn write<'a>(
     t: Told,
     word: u8,
@@ -178,7 +201,10 @@ fn write<'a>(
     out: &mut [u8],
 ) -> Told {
     match word {
-        b'w' | b'W' => put(word, head, table, block, store, out),
+        b'w' | b'W' => {
+            memory::fill(out, memory::BLANK);
+            put(word, head, table, block, store, out)
+        }
         _ => t,
     }
 }
@@ -194,7 +220,7 @@ pub fn answered<'a>(
     table: &[u32; 1024],
     block: &'a [u8; 140000],
     store: &'a [u8; 140000],
-    desk: &mut [u8; 140000],
+    desk: &mut [u8],
     s: State,
 ) -> Told {
     let b = memory::front(block, s.block);

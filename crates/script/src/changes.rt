@@ -73,7 +73,7 @@ fn feed(
 ) -> Told {
     let mut taken: u64 = 0;
     let answer = abi::reading::bisquecrow_feed(head, table, block, store, piece, &mut taken);
-    told::told(answer, 0, 0, taken)
+    told::numbered(answer, 0, 0, taken)
 }
 
 // One call of a walker on the rest of a piece of n octets, of which so many were walked.
@@ -157,8 +157,8 @@ pub fn acted(
     trail: &mut [u64; 4],
     head: &mut [u64; 13],
     table: &mut [u32; 1024],
-    block: &mut [u8; 140000],
-    store: &mut [u8; 140000],
+    block: &mut [u8],
+    store: &mut [u8],
     desk: &[u8; 140000],
     s: State,
     n: Laid,

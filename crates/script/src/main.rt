@@ -22,16 +22,16 @@ const ENDED: [u64; 4] = [0, 0, 0, 7];
 // The memory: what was read, what is to be written, the octets of a word's arguments or the output that it writes into, the blocks and stores of
 // the map and the kept map, LOAN octets for each, and their numbers. A turn of the loop reads on, or does one word or one call on a piece.
 fn main() {
-    let mut typed = [0u8; 1048576];
-    let mut said = [0u8; 65536];
-    let mut desk = [0u8; 140000];
-    let mut block = [0u8; 140000];
-    let mut store = [0u8; 140000];
+    let mut typed = memory::long_room();
+    let mut said = memory::room();
+    let mut desk = memory::room();
+    let mut block = memory::room();
+    let mut store = memory::room();
     let mut trail = ENDED;
     let mut head = [0u64; 13];
-    let mut table = [0u32; 1024];
+    let mut table = memory::table();
     let mut kept_head = [0u64; 13];
-    let mut kept_table = [0u32; 1024];
+    let mut kept_table = memory::table();
     let mut c = inputs::start();
     let mut s = state::fresh();
     let mut at = 0;
@@ -90,7 +90,7 @@ fn main() {
         if over {
             trail = ENDED;
             head = [0; 13];
-            table = [0; 1024];
+            table = memory::table();
         }
         if state::keeps(word) {
             kept_head = head;

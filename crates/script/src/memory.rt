@@ -11,6 +11,19 @@ pub const FRESH: u8 = 0xaa;
 
 pub const BLANK: u8 = 0xbb;
 
+// Memory that is 0. A function answers it, and not an expression where it is lent: a proof looks no further than its length then.
+pub fn room() -> [u8; 140000] {
+    [0; 140000]
+}
+
+pub fn long_room() -> [u8; 1048576] {
+    [0; 1048576]
+}
+
+pub fn table() -> [u32; 1024] {
+    [0; 1024]
+}
+
 // The first n octets, or all.
 pub fn front<'a>(s: &'a [u8], n: usize) -> &'a [u8] {
     if n <= s.len() {
@@ -27,10 +40,10 @@ pub fn lend<'a>(s: &'a mut [u8], n: usize) -> &'a mut [u8] {
     s
 }
 
-// What lies behind a loan, to write into.
-pub fn lend_second<'a>(s: &'a mut [u8]) -> &'a mut [u8] {
-    if LOAN <= s.len() {
-        return &mut s[LOAN..];
+// What lies behind the first n octets, or all, to write into.
+pub fn lend_behind<'a>(s: &'a mut [u8], n: usize) -> &'a mut [u8] {
+    if n <= s.len() {
+        return &mut s[n..];
     }
     s
 }
@@ -72,16 +85,23 @@ pub fn is_touched(loan: &[u8], from: usize) -> bool {
     false
 }
 
+// Copies one octet, where there are both.
+fn copy(s: &mut [u8], from: usize, to: usize) {
+    if from < s.len() {
+        if to < s.len() {
+            let x = s[from];
+            s[to] = x;
+        }
+    }
+}
+
 // Copies n octets from one place on to another, the first first, as far as there are both.
 pub fn shift(s: &mut [u8], from: usize, to: usize, n: usize) {
     for k in 0..n {
-        let i = std::num::wrapping_add_usize(from, k);
-        let j = std::num::wrapping_add_usize(to, k);
-        if i < s.len() {
-            if j < s.len() {
-                let x = s[i];
-                s[j] = x;
-            }
-        }
+        copy(
+            s,
+            std::num::wrapping_add_usize(from, k),
+            std::num::wrapping_add_usize(to, k),
+        );
     }
 }

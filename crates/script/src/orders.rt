@@ -147,6 +147,9 @@ fn with(r: Given, n: Number) -> Given {
     r
 }
 
+// The most arguments of a word.
+const ARGUMENTS: usize = 8;
+
 // The arguments of a shape from a place on.
 fn arguments(line: &[u8], at: usize, shape: u32) -> Given {
     let mut r = Given {
@@ -156,7 +159,7 @@ fn arguments(line: &[u8], at: usize, shape: u32) -> Given {
         count: 0,
         numbers: [0; 8],
     };
-    for _ in 0..8 {
+    for _ in 0..ARGUMENTS {
         if r.shape == 0 {
             return r;
         }
@@ -289,14 +292,14 @@ pub fn lay(
     c: Input,
     word: u8,
     numbers: [usize; 8],
-    desk: &mut [u8; 140000],
+    desk: &mut [u8],
 ) -> Laid {
     let line = inputs::line(typed, c);
     let one = numbers::lay(line, first_octets(word, numbers), memory::lend(desk, LOAN));
     let two = numbers::lay(
         line,
         second_octets(word, numbers),
-        memory::lend_second(desk),
+        memory::lend_behind(desk, LOAN),
     );
     Laid { one, two }
 }

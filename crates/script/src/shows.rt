@@ -8,6 +8,24 @@ use crate::told::Told;
 // The most characters of a text.
 const LENGTH: usize = 8;
 
+// A character of a text, or the number k where `#` stands.
+fn character(said: &mut [u8], at: usize, x: u8, numbers: [u64; 3], k: usize) -> usize {
+    if x == b'#' {
+        if k < 3 {
+            return prints::decimal(said, at, numbers[k]);
+        }
+    }
+    prints::character(said, at, x)
+}
+
+// How many numbers were named up to a character.
+fn named(k: usize, x: u8) -> usize {
+    if x == b'#' {
+        return std::num::wrapping_add_usize(k, 1);
+    }
+    k
+}
+
 // A text, with its numbers.
 fn text(said: &mut [u8], at: usize, letters: u64, numbers: [u64; 3]) -> usize {
     let mut at = at;
@@ -18,15 +36,9 @@ fn text(said: &mut [u8], at: usize, letters: u64, numbers: [u64; 3]) -> usize {
             return at;
         }
         let x = (rest % 256) as u8;
+        at = character(said, at, x, numbers, k);
+        k = named(k, x);
         rest = rest / 256;
-        if x == b'#' {
-            if k < 3 {
-                at = prints::decimal(said, at, numbers[k]);
-                k = k + 1;
-            }
-        } else {
-            at = prints::character(said, at, x);
-        }
     }
     at
 }
@@ -43,52 +55,66 @@ const BLOCK_PLACE: u64 = 262583231330;
 const STORE_PLACE: u64 = 262583231347;
 
 // How the place k of a list of fields is said: behind `:` a value, behind `;` a key, but the first.
-fn text_of_place(k: usize, in_store: bool) -> u64 {
-    let letters = if in_store { STORE_PLACE } else { BLOCK_PLACE };
+fn block_text(k: usize) -> u64 {
     if k == 0 {
-        return letters;
+        return BLOCK_PLACE;
     }
-    letters * 256 + 59 - ((k % 2) as u64)
+    match k % 2 {
+        0 => 67221307220539, // ;b#.#=
+        _ => 67221307220538, // :b#.#=
+    }
 }
 
-// The place k of a table.
+fn store_text(k: usize) -> u64 {
+    if k == 0 {
+        return STORE_PLACE;
+    }
+    match k % 2 {
+        0 => 67221307224891, // ;s#.#=
+        _ => 67221307224890, // :s#.#=
+    }
+}
+
+fn wide(x: u32) -> u64 {
+    x as u64
+}
+
+fn number(table: &[u32], i: usize) -> u64 {
+    if i < table.len() {
+        return wide(table[i]);
+    }
+    0
+}
+
+// The place of a table whose numbers stand from a given one on, the place k of a list.
 fn place_of(
     said: &mut [u8],
     at: usize,
-    table: &[u32; 1024],
+    table: &[u32],
+    i: usize,
     k: usize,
     block: &[u8],
     store: &[u8],
 ) -> usize {
-    if k < 512 {
-        let from = table[k * 2] as u64;
-        let to = table[k * 2 + 1] as u64;
-        if from < STORE {
-            return place(said, at, text_of_place(k, false), from, to, block);
-        }
-        return place(said, at, text_of_place(k, true), from - STORE, to, store);
+    let from = number(table, i);
+    let to = number(table, std::num::wrapping_add_usize(i, 1));
+    if from < STORE {
+        return place(said, at, block_text(k), from, to, block);
     }
-    at
+    place(said, at, store_text(k), from - STORE, to, store)
 }
 
 // In a table, offsets of the store begin at this number.
 const STORE: u64 = 2147483648;
 
 // The first n fields.
-fn list(
-    said: &mut [u8],
-    at: usize,
-    table: &[u32; 1024],
-    n: u64,
-    block: &[u8],
-    store: &[u8],
-) -> usize {
+fn list(said: &mut [u8], at: usize, table: &[u32], n: u64, block: &[u8], store: &[u8]) -> usize {
     let mut at = at;
     for k in 0..512 {
         if ((k / 2) as u64) >= n {
             return at;
         }
-        at = place_of(said, at, table, k, block, store);
+        at = place_of(said, at, table, k * 2, k, block, store);
     }
     at
 }
@@ -180,7 +206,7 @@ fn say(
 
 // The same behind what stands before it, on the memory that the loans are in.
 pub fn said_of(
-    said: &mut [u8; 65536],
+    said: &mut [u8; 140000],
     at: usize,
     t: Told,
     word: u8,

@@ -37,7 +37,7 @@ pub const LOANS: u32 = 92;
 
 pub const COLUMN: u32 = 93;
 
-pub fn told(answer: u32, a: u64, b: u64, c: u64) -> Told {
+pub fn numbered(answer: u32, a: u64, b: u64, c: u64) -> Told {
     Told {
         answer,
         a,
@@ -50,7 +50,7 @@ pub fn told(answer: u32, a: u64, b: u64, c: u64) -> Told {
 }
 
 pub fn plain(answer: u32) -> Told {
-    told(answer, 0, 0, 0)
+    numbered(answer, 0, 0, 0)
 }
 
 // How much of a piece was walked by a walker that answered so, if it goes on over the rest of it: 0 if not.
