@@ -206,7 +206,7 @@ fn say(
 
 // The same behind what stands before it, on the memory that the loans are in.
 pub fn said_of(
-    said: &mut [u8; 140000],
+    said: &mut [u8],
     at: usize,
     t: Told,
     word: u8,

@@ -68,7 +68,7 @@ fn prepare(memory: &mut [u8], n: usize, word: u8) {
 }
 
 // The same to both memories.
-pub fn prepare_both(block: &mut [u8; 140000], store: &mut [u8; 140000], s: State, word: u8) {
+pub fn prepare_both(block: &mut [u8], store: &mut [u8], s: State, word: u8) {
     prepare(block, s.block, word);
     prepare(store, s.store, word);
 }

@@ -1,4 +1,9 @@
+-- `script::main` is safe and ends: the five memories keep their lengths, and the turns are counted. Assumes nothing.
 use borrow.Author.Needs.{needs}
+use native.Mathlib.Omega.{arith}
+use mathlib.Core.Path.{_≡_, _∙_, sym}
+use Prim.Native.Nat.{_-_}
+use lib.ListN.{length}
 use Rattle.script.proofs.main.Statement.{statement}
 use Rattle.script.proofs.main.Tie as tie
 use Rattle.script.proofs.asks.answered.Reads as answered-reads
@@ -23,11 +28,11 @@ use Rattle.script.proofs.state.prepare_both.Reads as prepare-both-reads
 
 abbrev Inv-loop : tie.InvT-loop
 Inv-loop typed₀ said₀ desk₀ block₀ store₀ trail₀ head₀ table₀ kept-head₀ kept-table₀ c₀ s₀ at₀ counter₀ typed said desk block store trail head table kept-head kept-table c s at counter =
-    ?
+    (length typed ≡ 1048576) × (length said ≡ 140000) × (length desk ≡ 140000) × (length block ≡ 140000) × (length store ≡ 140000)
 
 abbrev μ-loop : tie.MeasureT-loop
 μ-loop typed₀ said₀ desk₀ block₀ store₀ trail₀ head₀ table₀ kept-head₀ kept-table₀ c₀ s₀ at₀ counter₀ typed said desk block store trail head table kept-head kept-table c s at counter =
-    ?
+    18446744073709551615 - counter
 
 long-room-requires : tie.Need-long-room-requires Inv-loop μ-loop
 long-room-requires c κs = search needs
@@ -89,14 +94,20 @@ lay-requires c κs = search needs
 lending-requires : tie.Need-lending-requires Inv-loop μ-loop
 lending-requires c κs = search needs
 
+slice-aggregate-prepare-both : tie.Need-slice-aggregate-prepare-both Inv-loop μ-loop
+slice-aggregate-prepare-both c = sym (c .before .before .before .before .before .before .before .before .before .before .before .before .before .before .before .before .loop .inv .3)
+
+slice-aggregate-prepare-both-2 : tie.Need-slice-aggregate-prepare-both-2 Inv-loop μ-loop
+slice-aggregate-prepare-both-2 c = sym (c .before .before .before .before .before .before .before .before .before .before .before .before .before .before .before .before .before .loop .inv .4)
+
 prepare-both-requires : tie.Need-prepare-both-requires Inv-loop μ-loop
 prepare-both-requires c κs = search needs
 
 slice-aggregate-acted : tie.Need-slice-aggregate-acted Inv-loop μ-loop
-slice-aggregate-acted c = search needs
+slice-aggregate-acted c = sym (c .before .before .before .before .before .before .prepare-both .kept .0 ∙ c .before .before .before .before .before .before .before .before .before .before .before .before .before .before .before .before .before .before .before .before .before .before .before .before .loop .inv .3)
 
 slice-aggregate-acted-2 : tie.Need-slice-aggregate-acted-2 Inv-loop μ-loop
-slice-aggregate-acted-2 c = search needs
+slice-aggregate-acted-2 c = sym (c .before .before .before .before .before .before .before .prepare-both .kept .1 .0 ∙ c .before .before .before .before .before .before .before .before .before .before .before .before .before .before .before .before .before .before .before .before .before .before .before .before .before .loop .inv .4)
 
 acted-requires : tie.Need-acted-requires Inv-loop μ-loop
 acted-requires c κs = search needs
@@ -109,6 +120,9 @@ slice-aggregate-answered c = search needs
 
 answered-requires : tie.Need-answered-requires Inv-loop μ-loop
 answered-requires c κs = search needs
+
+slice-aggregate-said-of : tie.Need-slice-aggregate-said-of Inv-loop μ-loop
+slice-aggregate-said-of c = sym (c .before .before .before .before .before .before .before .before .before .before .before .before .before .before .before .before .before .before .before .before .before .before .before .before .before .before .before .before .before .before .before .before .before .before .before .before .before .before .before .loop .inv .1)
 
 said-of-requires : tie.Need-said-of-requires Inv-loop μ-loop
 said-of-requires c κs = search needs
@@ -129,13 +143,20 @@ keeps-requires : tie.Need-keeps-requires Inv-loop μ-loop
 keeps-requires c κs = search needs
 
 add-counter : tie.Need-add-counter Inv-loop μ-loop
-add-counter c = search needs
+add-counter c = omega (arith, c .before .before .before .before .before .before .before .before .before .before .before .before .before .before .before .before .before .before .before .before .before .before .before .before .before .before .before .before .before .before .before .before .before .before .before .before .before .before .before .before .before .before .before .before .before .before .before .before .before .before .before .loop-test .taken)
 
 loop-less : tie.Need-loop-less Inv-loop μ-loop
-loop-less c = search needs
+loop-less c = omega (arith, c .before .before .before .before .before .before .before .before .before .before .before .before .before .before .before .before .before .before .before .before .before .before .before .before .before .before .before .before .before .before .before .before .before .before .before .before .before .before .before .before .before .before .before .before .before .before .before .before .before .before .before .loop-test .taken)
 
 loop-again : tie.Need-loop-again Inv-loop μ-loop
-loop-again c = search needs
+loop-again c =
+    let at-answered = c .before .before .before .before .before .before .before .before .before .before .before .before .before .before .before in let at-acted = at-answered .before .before .before .before .before .before .before .before .before .before in let at-prepared = at-acted .before .before .before .before .before .before .before .before .before in let at-laid = at-prepared .before .before .before .before .before in let at-next = at-laid .before .before .before .before .before .before .before .before in let at-loop = at-next .before .before .before .before .before .loop in (
+      at-next .next .kept .0 ∙ at-loop .inv .0,
+      c .before .before .before .before .before .before .before .said-of .kept .0 ∙ at-loop .inv .1,
+      at-answered .answered .kept .1 .1 .1 .1 .1 .1 .1 .1 .1 .0 ∙ at-laid .lay .kept .1 .1 .1 .1 .0 ∙ at-loop .inv .2,
+      at-acted .acted .kept .1 .1 .1 .1 .1 .0 ∙ at-prepared .prepare-both .kept .0 ∙ at-loop .inv .3,
+      at-acted .acted .kept .1 .1 .1 .1 .1 .1 .0 ∙ at-prepared .prepare-both .kept .1 .0 ∙ at-loop .inv .4,
+    )
 
 returns-2 : tie.Need-returns-2 Inv-loop μ-loop
 returns-2 c = search needs
@@ -166,6 +187,8 @@ main-spec =
     slice-aggregate-lay
     lay-requires
     lending-requires
+    slice-aggregate-prepare-both
+    slice-aggregate-prepare-both-2
     prepare-both-requires
     slice-aggregate-acted
     slice-aggregate-acted-2
@@ -173,6 +196,7 @@ main-spec =
     array-read-answered
     slice-aggregate-answered
     answered-requires
+    slice-aggregate-said-of
     said-of-requires
     behind-requires
     ends-line-requires
