@@ -1,110 +1,100 @@
 // Runs cases written one to a line and prints every answer: the words of a line by single spaces, octets in lower-case hex, `-`
 // for no octets, numbers in decimal; the answers of a line by single spaces on a line. A line that makes no sense prints its
-// answers up to there, `?` and the column, and the next line is read.
-mod words;
+// answers up to there, `?` and the column, and the next line is read. The words are answered by the calls that other languages link.
+mod asks;
+mod changes;
+mod damages;
+mod inputs;
+mod memory;
+mod names;
+mod numbers;
+mod orders;
+mod shows;
+mod state;
+mod told;
 
-use script_inputs::Cursor;
-use script_orders::Kind;
-use script_orders::Order;
-use script_states::Left;
-use script_states::State;
+// A number of loop turns that no run uses up: nothing says that an input ends, and a proved loop has to.
+const TURNS: u64 = 18446744073709551615;
 
-// The space that stood before a word.
-fn spaced(said: &mut [u8], at: usize, space: bool) -> usize {
-    if space {
-        return prints::character(said, at, b' ');
-    }
-    at
-}
+// The numbers of a walker that has ended, as a line has it at its beginning.
+const ENDED: [u64; 4] = [0, 0, 0, 7];
 
-// The end of a line; what was said is written where nothing more has come.
-fn line_ended(said: &mut [u8], at: usize, c: Cursor) -> usize {
-    let behind = prints::character(said, at, b'\n');
-    if script_inputs::is_used_up(c) {
-        return prints::flush(said, behind);
-    }
-    behind
-}
-
-// `?` and the column.
-fn nonsense(said: &mut [u8], at: usize, column: u64) -> usize {
-    let sign = prints::character(said, at, b'?');
-    prints::decimal(said, sign, column)
-}
-
-// Behind a line: the next starts afresh.
-fn afresh(said: &mut [u8], at: usize, c: Cursor) -> Left {
-    Left {
-        state: script_states::fresh(),
-        at: line_ended(said, at, c),
-    }
-}
-
-// What was read and is no word.
-fn passed(said: &mut [u8], at: usize, s: State, o: Order) -> Left {
-    let kind = o.kind;
-    match kind {
-        Kind::Nonsense => {
-            let behind = nonsense(said, at, o.column);
-            afresh(said, behind, o.cursor)
-        }
-        Kind::Line => afresh(said, at, o.cursor),
-        _ => Left {
-            state: s,
-            at: prints::flush(said, at),
-        },
-    }
-}
-
-fn is_word(o: Order) -> bool {
-    let kind = o.kind;
-    match kind {
-        Kind::Word => true,
-        _ => false,
-    }
-}
-
-// The answer to what was read.
-fn answered(
-    said: &mut [u8],
-    at: usize,
-    s: State,
-    o: Order,
-    desk: &mut [u8],
-    block: &mut [u8],
-    store: &mut [u8],
-) -> Left {
-    let behind = spaced(said, at, o.spaced);
-    if is_word(o) {
-        return words::answer(said, behind, s, o, desk, block, store);
-    }
-    passed(said, behind, s, o)
-}
-
-// Every line.
-fn run(typed: &mut [u8], said: &mut [u8], desk: &mut [u8], block: &mut [u8], store: &mut [u8]) {
-    let mut s = script_states::fresh();
-    let mut c = script_inputs::start();
+// The memory: what was read, what is to be written, the octets of a word's arguments or the output that it writes into, the blocks and stores of
+// the map and the kept map, LOAN octets for each, and their numbers. A turn of the loop reads on, or does one word or one call on a piece.
+fn main() {
+    let mut typed = memory::long_room();
+    let mut said = memory::room();
+    let mut desk = memory::room();
+    let mut block = memory::room();
+    let mut store = memory::room();
+    let mut trail = ENDED;
+    let mut head = [0u64; 13];
+    let mut table = memory::table();
+    let mut kept_head = [0u64; 13];
+    let mut kept_table = memory::table();
+    let mut c = inputs::start();
+    let mut s = state::fresh();
     let mut at = 0;
-    for _ in 0..script_inputs::TURNS {
-        let o = script_orders::read(typed, c, desk);
-        c = o.cursor;
-        let left = answered(said, at, s, o, desk, block, store);
-        s = left.state;
-        at = left.at;
-        if script_orders::is_over(o) {
+    for _ in 0..TURNS {
+        at = inputs::flushed(&said, at, c);
+        c = inputs::next(&mut typed, c);
+        if c.over {
             return;
         }
+        let o = orders::read(&typed, c, s.place);
+        let word = o.word;
+        let numbers = state::numbers_of(s, o);
+        let n = orders::lay(&typed, c, word, numbers, &mut desk);
+        s = state::lending(s, word, numbers);
+        state::prepare_both(&mut block, &mut store, s, word);
+        let acted = changes::acted(
+            word,
+            numbers,
+            &mut trail,
+            &mut head,
+            &mut table,
+            &mut block,
+            &mut store,
+            &desk,
+            s,
+            n,
+        );
+        let t = asks::answered(
+            acted,
+            word,
+            numbers[0],
+            &kept_head,
+            &kept_table,
+            &head,
+            &table,
+            &block,
+            &store,
+            &mut desk,
+            s,
+        );
+        at = shows::said_of(
+            &mut said,
+            at,
+            t,
+            word,
+            &head,
+            &table,
+            &block,
+            &store,
+            &desk,
+            s,
+        );
+        s = state::behind(s, o, t.on);
+        let over = orders::ends_line(word);
+        c = inputs::behind(c, over);
+        if over {
+            trail = ENDED;
+            head = [0; 13];
+            table = memory::table();
+        }
+        if state::keeps(word) {
+            kept_head = head;
+            kept_table = table;
+        }
     }
-}
-
-// The memory: what was read, what is to be written, the octets of a word's arguments or the output that it writes into, and the blocks
-// and stores of the map and the kept map.
-fn main() {
-    let mut typed = [0u8; 65536];
-    let mut said = [0u8; 65536];
-    let mut desk = [0u8; 140000];
-    let mut block = [0u8; 140000];
-    let mut store = [0u8; 140000];
-    run(&mut typed, &mut said, &mut desk, &mut block, &mut store);
 }
