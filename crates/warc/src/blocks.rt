@@ -20,23 +20,53 @@ struct Ended {
     taken: u64,
 }
 
-// What ended a block whose last read answered n.
-fn chosen(n: usize, answer: u32, finished: u32) -> u32 {
+fn begin(
+    head: &mut [u64; 13],
+    table: &[u32; 1024],
+    block: &[u8; 32768],
+    store: &[u8; 32768],
+    status: bool,
+    quirks: bool,
+) {
+    abi::reading::bisquecrow_begin(head, table, LIMIT, LIMIT, status, quirks, block, store);
+}
+
+fn feed(
+    head: &mut [u64; 13],
+    table: &mut [u32; 1024],
+    block: &mut [u8; 32768],
+    store: &mut [u8; 32768],
+    piece: &[u8],
+    taken: &mut u64,
+) -> u32 {
+    abi::reading::bisquecrow_feed(head, table, block, store, piece, taken)
+}
+
+// What ended a block whose last read answered n. Finishing changes nothing of a block that has ended.
+fn finish(
+    n: u64,
+    answer: u32,
+    head: &mut [u64; 13],
+    table: &mut [u32; 1024],
+    block: &[u8; 32768],
+    store: &mut [u8; 32768],
+) -> u32 {
+    let finished = abi::reading::bisquecrow_finish(head, table, block, store);
     match n {
         0 => finished,
-        out::FAILED => 0,
+        inputs::FAILED => 0,
         _ => answer,
     }
 }
 
-fn is_over(n: usize) -> bool {
+fn is_over(n: u64) -> bool {
     match n {
-        0 | out::FAILED => true,
+        0 | inputs::FAILED => true,
         _ => false,
     }
 }
 
-// Opens a file and reads its header block in large pieces, until one ends it or nothing more comes. Finishing changes nothing of a block that has ended.
+// Opens a file and reads its header block in large pieces, until one ends it or nothing more comes.
 fn load(
     path: &[u8],
     status: bool,
@@ -47,18 +77,18 @@ fn load(
     store: &mut [u8; 32768],
 ) -> Ended {
     let mut typed = [0u8; 262144];
-    let mut all = 0u64;
     let mut taken = 0u64;
-    let mut n = 0;
+    let mut all = 0u64;
+    let mut n = 0u64;
     let mut answer = MORE;
     let fd = inputs::open(path);
-    abi::reading::bisquecrow_begin(head, table, LIMIT, LIMIT, status, quirks, block, store);
+    begin(head, table, block, store, status, quirks);
     for _ in 0..inputs::TURNS {
         n = inputs::read(fd, path, &mut typed);
         if is_over(n) {
             break;
         }
-        answer = abi::reading::bisquecrow_feed(
+        answer = feed(
             head,
             table,
             block,
@@ -72,9 +102,8 @@ fn load(
         }
     }
     inputs::close(fd);
-    let finished = abi::reading::bisquecrow_finish(head, table, block, store);
     Ended {
-        answer: chosen(n, answer, finished),
+        answer: finish(n, answer, head, table, block, store),
         taken: all,
     }
 }
@@ -102,6 +131,17 @@ fn fields<'a>(
     at
 }
 
+// The table's number j of field i.
+fn entry(table: &[u32; 1024], i: usize, j: usize) -> u64 {
+    if i < 256 {
+        if j < 4 {
+            let k = i * 4 + j;
+            return wide(table[k]);
+        }
+    }
+    0
+}
+
 fn field<'a>(
     said: &mut [u8; 65536],
     at: usize,
@@ -110,22 +150,18 @@ fn field<'a>(
     block: &'a [u8; 32768],
     store: &'a [u8; 32768],
 ) -> usize {
-    if i < 256 {
-        let k = i * 4;
-        let a = wide(table[k]);
-        let b = wide(table[k + 1]);
-        let c = wide(table[k + 2]);
-        let d = wide(table[k + 3]);
-        return forms::say(
-            said,
-            at,
-            forms::FIELD,
-            &[i as u64, a, b, c, d, a, b, c, d],
-            block,
-            store,
-        );
-    }
-    at
+    let a = entry(table, i, 0);
+    let b = entry(table, i, 1);
+    let c = entry(table, i, 2);
+    let d = entry(table, i, 3);
+    forms::say(
+        said,
+        at,
+        forms::FIELD,
+        &[i as u64, a, b, c, d, a, b, c, d],
+        block,
+        store,
+    )
 }
 
 // Where the offsets of a status begin, by its kind.

@@ -13,6 +13,9 @@ pub const BAD: u64 = 1;
 
 pub const UNREAD: u64 = 2;
 
+// A read failed.
+pub const FAILED: u64 = 18446744073709551615;
+
 // The status where a flush was the last thing to do.
 pub fn written(next: usize) -> u64 {
     match next {
@@ -66,19 +69,19 @@ pub fn close(fd: i32) {
 }
 
 // Reads once, and answers how many octets came, or FAILED, which was said; from no file at all that was said before.
-pub fn read(fd: i32, path: &[u8], typed: &mut [u8; 262144]) -> usize {
+pub fn read(fd: i32, path: &[u8], typed: &mut [u8; 262144]) -> u64 {
     if fd < 0 {
-        return out::FAILED;
+        return FAILED;
     }
     let got = libc::read(fd, typed);
     if got < 0 {
         fail(path);
-        return out::FAILED;
+        return FAILED;
     }
-    io::count(got, typed)
+    io::count(got, typed) as u64
 }
 
 // What was read, from a place before another.
-pub fn piece<'a>(typed: &'a [u8; 262144], from: usize, to: usize) -> &'a [u8] {
-    texts::part(typed, from, to)
+pub fn piece<'a>(typed: &'a [u8; 262144], from: u64, to: u64) -> &'a [u8] {
+    texts::part(typed, from as usize, to as usize)
 }

@@ -34,8 +34,8 @@ fn say_progress(good: u64, position: u64) {
 }
 
 // Says on standard error how far a long file is walked over, where the last piece passed a stride.
-fn progress(good: u64, position: u64, piece: usize) {
-    if position % STRIDE < piece as u64 {
+fn progress(good: u64, position: u64, piece: u64) {
+    if position % STRIDE < piece {
         if position >= STRIDE {
             say_progress(good, position);
         }
@@ -80,46 +80,61 @@ fn value<'a>(
     }
 }
 
-fn is_listed(listed: bool, answer: u32) -> bool {
-    if listed {
-        return answer == RECORD;
+fn nth(record: &[u64; 4], i: usize) -> u64 {
+    if i < 4 {
+        return record[i];
     }
-    false
+    0
 }
 
-// The line of a record that begins, if it is to be listed: start, body offset, length, type, date, target URI.
-fn list<'a>(
+fn list_record<'a>(
     said: &mut [u8; 65536],
     at: usize,
-    is_listed: bool,
     record: &[u64; 4],
     head: &[u64; 13],
     table: &[u32; 1024],
     block: &'a [u8; 32768],
     store: &'a [u8; 32768],
 ) -> usize {
-    if is_listed {
-        let date = value(head, table, block, store, b"WARC-Date");
-        let uri = value(head, table, block, store, b"WARC-Target-URI");
-        let numbers = [
-            record[0],
-            record[1],
-            record[2],
-            record[3],
-            date.from,
-            date.to,
-            uri.from,
-            uri.to,
-        ];
-        return forms::say(said, at, forms::LISTED, &numbers, block, store);
+    let date = value(head, table, block, store, b"WARC-Date");
+    let uri = value(head, table, block, store, b"WARC-Target-URI");
+    let numbers = [
+        nth(record, 0),
+        nth(record, 1),
+        nth(record, 2),
+        nth(record, 3),
+        date.from,
+        date.to,
+        uri.from,
+        uri.to,
+    ];
+    forms::say(said, at, forms::LISTED, &numbers, block, store)
+}
+
+// The line of a record that begins, if it is to be listed: start, body offset, length, type, date, target URI.
+fn list<'a>(
+    said: &mut [u8; 65536],
+    at: usize,
+    listed: bool,
+    answer: u32,
+    record: &[u64; 4],
+    head: &[u64; 13],
+    table: &[u32; 1024],
+    block: &'a [u8; 32768],
+    store: &'a [u8; 32768],
+) -> usize {
+    if listed {
+        if answer == RECORD {
+            return list_record(said, at, record, head, table, block, store);
+        }
     }
     at
 }
 
 // How many records a call of the walker ended: the answer MORE is a record's end where the walker stands between records.
-fn passed(answer: u32, stage: u64) -> u64 {
+fn passed(answer: u32, trail: &[u64; 4]) -> u64 {
     if answer == MORE {
-        if stage == BETWEEN {
+        if trail[3] == BETWEEN {
             return 1;
         }
     }
@@ -164,22 +179,19 @@ fn status(how: u64, listed: usize, told: usize) -> u64 {
 }
 
 // How the walk ended: as the walker says, unless a read or a write failed, of which it was not told.
-fn how(at: usize, to: usize, answer: u32) -> u64 {
-    if at == out::FAILED {
-        return UNWRITTEN;
+fn how(to: u64, answer: u32) -> u64 {
+    match to {
+        UNREAD | UNWRITTEN => to,
+        _ => answer as u64,
     }
-    if to == out::FAILED {
-        return UNREAD;
-    }
-    answer as u64
 }
 
 // The end of the last record that is good.
-fn whole(stage: u64, start: u64, position: u64) -> u64 {
-    match stage {
-        ENDED => position,
-        _ => start,
+fn whole(trail: &[u64; 4]) -> u64 {
+    if trail[3] == ENDED {
+        return trail[0];
     }
+    trail[2]
 }
 
 // Behind a listing, what is told goes to standard error.
@@ -208,19 +220,29 @@ fn conclude(
     status(how, first, second)
 }
 
-// Where to read on from: nothing is read where nothing can be written any more.
-fn source(fd: i32, at: usize) -> i32 {
-    if at == out::FAILED {
-        return -1;
-    }
-    fd
+// Tells the walker of the end: one that has stopped repeats its answer.
+fn end(
+    trail: &mut [u64; 4],
+    head: &mut [u64; 13],
+    table: &[u32; 1024],
+    block: &[u8; 32768],
+    store: &[u8; 32768],
+    to: u64,
+) -> u64 {
+    how(
+        to,
+        abi::walking::bisquecrow_end(trail, head, table, block, store),
+    )
 }
 
-fn is_over(to: usize) -> bool {
-    match to {
-        0 | out::FAILED => true,
-        _ => false,
-    }
+fn start(
+    trail: &mut [u64; 4],
+    head: &mut [u64; 13],
+    table: &[u32; 1024],
+    block: &[u8; 32768],
+    store: &[u8; 32768],
+) {
+    abi::walking::bisquecrow_walker(trail, head, table, 32768, 0, block, store);
 }
 
 fn step(
@@ -236,18 +258,32 @@ fn step(
     abi::walking::bisquecrow_walk(trail, head, table, block, store, piece, taken, record)
 }
 
-fn end(
-    trail: &mut [u64; 4],
-    head: &mut [u64; 13],
-    table: &[u32; 1024],
-    block: &[u8; 32768],
-    store: &[u8; 32768],
-) -> u32 {
-    abi::walking::bisquecrow_end(trail, head, table, block, store)
+// Writes what was listed, and reads the next piece: how many octets came, UNREAD or UNWRITTEN.
+fn fill(
+    fd: i32,
+    path: &[u8],
+    typed: &mut [u8; 262144],
+    said: &[u8; 65536],
+    at: usize,
+    good: u64,
+    trail: &[u64; 4],
+    to: u64,
+) -> u64 {
+    if out::flush(libc::STDOUT_FILENO, said, at) == 0 {
+        progress(good, trail[0], to);
+        return inputs::read(fd, path, typed);
+    }
+    UNWRITTEN
 }
 
-// Every call of the walker, and what it leaves. Of the piece that was read, the octets from `from` before `to` are not walked over yet; where there are none, what
-// was listed is written, and the next piece read. A walker that has stopped repeats its answer at the end.
+fn is_over(to: u64) -> bool {
+    match to {
+        0 | UNREAD | UNWRITTEN => true,
+        _ => false,
+    }
+}
+
+// Every call of the walker, and what it leaves. Of the piece that was read, the octets from `from` before `to` are not walked over yet.
 fn walk_over(fd: i32, path: &[u8], listed: bool) -> u64 {
     let mut typed = [0u8; 262144];
     let mut said = [0u8; 65536];
@@ -258,17 +294,16 @@ fn walk_over(fd: i32, path: &[u8], listed: bool) -> u64 {
     let mut store = [0u8; 32768];
     let mut record = [0u64; 4];
     let mut taken = 0u64;
-    let mut from = 0;
-    let mut to = 0;
+    let mut from = 0u64;
+    let mut to = 0u64;
     let mut at = 0;
     let mut good = 0u64;
-    abi::walking::bisquecrow_walker(&mut trail, &mut head, &table, 32768, 0, &block, &store);
+    start(&mut trail, &mut head, &table, &block, &store);
     for _ in 0..inputs::TURNS {
         if from == to {
-            at = out::flush(libc::STDOUT_FILENO, &said, at);
-            progress(good, trail[0], to);
-            to = inputs::read(source(fd, at), path, &mut typed);
+            to = fill(fd, path, &mut typed, &said, at, good, &trail, to);
             from = 0;
+            at = 0;
         }
         if is_over(to) {
             break;
@@ -283,12 +318,13 @@ fn walk_over(fd: i32, path: &[u8], listed: bool) -> u64 {
             &mut taken,
             &mut record,
         );
-        from = std::num::wrapping_add_usize(from, taken as usize);
-        good = std::num::wrapping_add_u64(good, passed(answer, trail[3]));
+        from = std::num::wrapping_add_u64(from, taken);
+        good = std::num::wrapping_add_u64(good, passed(answer, &trail));
         at = list(
             &mut said,
             at,
-            is_listed(listed, answer),
+            listed,
+            answer,
             &record,
             &head,
             &table,
@@ -299,16 +335,16 @@ fn walk_over(fd: i32, path: &[u8], listed: bool) -> u64 {
             break;
         }
     }
-    let answer = end(&mut trail, &mut head, &table, &block, &store);
+    let how = end(&mut trail, &mut head, &table, &block, &store, to);
     conclude(
         &mut said,
         at,
         &block,
         listed,
-        how(at, to, answer),
+        how,
         good,
         trail[0],
-        whole(trail[3], trail[2], trail[0]),
+        whole(&trail),
     )
 }
 

@@ -5,16 +5,16 @@ use Rattle.warc.proofs.blocks.load.Statement.{statement}
 use Rattle.warc.proofs.blocks.load.Tie as tie
 
 abbrev Inv-loop : tie.InvT-loop
-Inv-loop path status quirks head₀ table₀ block₀ store₀ typed₀ all₀ taken₀ n₀ answer₀ fd counter₀ head table block store typed all taken n answer counter = Unit {0}
+Inv-loop path status quirks head₀ table₀ block₀ store₀ typed₀ taken₀ all₀ n₀ answer₀ fd counter₀ head table block store typed taken all n answer counter = Unit {0}
 
 abbrev μ-loop : tie.MeasureT-loop
-μ-loop path status quirks head₀ table₀ block₀ store₀ typed₀ all₀ taken₀ n₀ answer₀ fd counter₀ head table block store typed all taken n answer counter = 18446744073709551615 - counter
+μ-loop path status quirks head₀ table₀ block₀ store₀ typed₀ taken₀ all₀ n₀ answer₀ fd counter₀ head table block store typed taken all n answer counter = 18446744073709551615 - counter
 
 open-requires : tie.Need-open-requires Inv-loop μ-loop
 open-requires c κs = search needs
 
-bisquecrow-begin-requires : tie.Need-bisquecrow-begin-requires Inv-loop μ-loop
-bisquecrow-begin-requires c κs = search needs
+begin-requires : tie.Need-begin-requires Inv-loop μ-loop
+begin-requires c κs = search needs
 
 loop-holds : tie.Need-loop-holds Inv-loop μ-loop
 loop-holds c = search needs
@@ -28,8 +28,8 @@ is-over-requires c κs = search needs
 piece-requires : tie.Need-piece-requires Inv-loop μ-loop
 piece-requires c κs = search needs
 
-bisquecrow-feed-requires : tie.Need-bisquecrow-feed-requires Inv-loop μ-loop
-bisquecrow-feed-requires c κs = search needs
+feed-requires : tie.Need-feed-requires Inv-loop μ-loop
+feed-requires c κs = search needs
 
 wrapping-add-u64-requires : tie.Need-wrapping-add-u64-requires Inv-loop μ-loop
 wrapping-add-u64-requires c κs = search needs
@@ -46,11 +46,8 @@ loop-again c = search needs
 close-requires : tie.Need-close-requires Inv-loop μ-loop
 close-requires c κs = search needs
 
-bisquecrow-finish-requires : tie.Need-bisquecrow-finish-requires Inv-loop μ-loop
-bisquecrow-finish-requires c κs = search needs
-
-chosen-requires : tie.Need-chosen-requires Inv-loop μ-loop
-chosen-requires c κs = search needs
+finish-requires : tie.Need-finish-requires Inv-loop μ-loop
+finish-requires c κs = search needs
 
 returns : tie.Need-returns Inv-loop μ-loop
 returns c = search needs
@@ -62,17 +59,16 @@ load-spec =
     Inv-loop
     μ-loop
     open-requires
-    bisquecrow-begin-requires
+    begin-requires
     loop-holds
     read-requires
     is-over-requires
     piece-requires
-    bisquecrow-feed-requires
+    feed-requires
     wrapping-add-u64-requires
     add-counter
     loop-less
     loop-again
     close-requires
-    bisquecrow-finish-requires
-    chosen-requires
+    finish-requires
     returns)
