@@ -9,6 +9,11 @@ mod walks;
 // Where the exit status is written, since a program has none of its own.
 const STATUS_FILENO: i32 = 3;
 
+// The words that are options.
+const STATUS: usize = 8;
+
+const QUIRKS: usize = 9;
+
 // The number of the word that argument i is, by the lines below; 10 where it is none.
 fn word(i: usize) -> usize {
     let mut room = [0u8; 16];
@@ -56,7 +61,7 @@ fn misused() -> u64 {
 
 fn is_option(word: usize) -> bool {
     match word {
-        8 | 9 => true,
+        STATUS | QUIRKS => true,
         _ => false,
     }
 }
@@ -131,8 +136,8 @@ fn with_files(command: usize, one: usize, two: usize) -> u64 {
         command,
         texts::front(&first, n),
         texts::front(&second, k),
-        is_either(one, two, 8),
-        is_either(one, two, 9),
+        is_either(one, two, STATUS),
+        is_either(one, two, QUIRKS),
     )
 }
 

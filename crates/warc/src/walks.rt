@@ -19,10 +19,10 @@ const BETWEEN: u64 = 0;
 
 const ENDED: u64 = 7;
 
-// A file also ends where it cannot be read, or where its list cannot be written.
-const UNREAD: u64 = 100;
+// A file also ends where it cannot be read, or where its list cannot be written: no piece is as long, no answer as large.
+const UNREAD: u64 = inputs::FAILED;
 
-const UNWRITTEN: u64 = 101;
+const UNWRITTEN: u64 = 18446744073709551614;
 
 // A line of progress for every 256 MiB.
 const STRIDE: u64 = 268435456;
