@@ -66,33 +66,38 @@ fn by_number(n: u64, one: u64, other: u64) -> u64 {
 
 fn by_loan(n: u64) -> u64 {
     if n < STORE {
-        return 30;
+        return 16;
     }
-    31
+    17
+}
+
+// The row of a refusal.
+fn meaning(n: u64) -> u64 {
+    std::num::wrapping_add_u64(n, 17)
 }
 
 // The row of a record type.
 fn kind(code: u64) -> u64 {
     match code {
-        0 => 14,
-        2 => 15,
-        4 => 16,
-        8 => 17,
-        16 => 18,
-        32 => 19,
-        64 => 20,
-        128 => 21,
-        256 => 22,
-        _ => 23,
+        0 => 0,
+        2 => 1,
+        4 => 2,
+        8 => 3,
+        16 => 4,
+        32 => 5,
+        64 => 6,
+        128 => 7,
+        256 => 8,
+        _ => 9,
     }
 }
 
 // The row of a test's answer, yes, no or a refusal.
 fn answered(n: u64) -> u64 {
     match n {
-        69 => 24,
-        70 => 25,
-        _ => n,
+        69 => 10,
+        70 => 11,
+        _ => meaning(n),
     }
 }
 
@@ -101,30 +106,17 @@ fn row(sign: u8, n: u64) -> u64 {
     match sign {
         b'^' => kind(n),
         b'%' => answered(n),
-        b'~' => by_number(n, 27, 26),
-        b'=' => by_number(n, 29, 28),
+        b'~' => by_number(n, 13, 12),
+        b'=' => by_number(n, 15, 14),
         b'@' => by_loan(n),
-        _ => n,
+        _ => meaning(n),
     }
 }
 
+// A name. Those that each record needs come first.
 fn name(said: &mut [u8; 65536], at: usize, row: u64) -> usize {
     let words = texts::line(
-        b"
-limit or store room outside its range
-block lent shorter than the limit, or store than the room
-bad map
-the header goes on and its octets have reached the limit
-a 257th field is needed
-the new octets exceed the room of the store
-a call that the map is not ready for
-output shorter than the written form
-version line is not WARC/1.0 or WARC/1.1
-Content-Length absent, repeated, not one or more digits, or over 1099511627776
-an octet after the body differs from CR LF CR LF
-file ends inside a record
-an octet at position 4611686018427387904 or later would be taken
--
+        b"-
 warcinfo
 response
 resource
@@ -142,6 +134,19 @@ were
 was
 block 
 store 
+limit or store room outside its range
+block lent shorter than the limit, or store than the room
+bad map
+the header goes on and its octets have reached the limit
+a 257th field is needed
+the new octets exceed the room of the store
+a call that the map is not ready for
+output shorter than the written form
+version line is not WARC/1.0 or WARC/1.1
+Content-Length absent, repeated, not one or more digits, or over 1099511627776
+an octet after the body differs from CR LF CR LF
+file ends inside a record
+an octet at position 4611686018427387904 or later would be taken
 ",
         row as usize,
     );
