@@ -1,97 +1,43 @@
 // The program `warc`: what a person runs on a file.
+mod blocks;
+mod forms;
+mod inputs;
+mod out;
+mod texts;
+mod walks;
 
-enum Command {
-    Walk,
-    Check,
-    Header,
-    Resume,
-    Tidy,
-    Help,
-    Unknown,
-}
+// Where the exit status is written, since a program has none of its own.
+const STATUS_FILENO: i32 = 3;
 
-fn is_word_in(room: &mut [u8], i: usize, word: &[u8]) -> bool {
-    let n = os::arg(i, room);
-    equals::same_octets(warc_inputs::front(room, n), word)
-}
+// The words that are options.
+const STATUS: usize = 8;
 
-// Whether argument i is a word.
-fn is_word(i: usize, word: &[u8]) -> bool {
+const QUIRKS: usize = 9;
+
+// The number of the word that argument i is, by the lines below; 10 where it is none.
+fn word(i: usize) -> usize {
     let mut room = [0u8; 16];
-    is_word_in(&mut room, i, word)
-}
-
-fn is_help() -> bool {
-    if is_word(1, b"help") {
-        return true;
-    }
-    if is_word(1, b"-h") {
-        return true;
-    }
-    is_word(1, b"--help")
-}
-
-fn other_command() -> Command {
-    if is_word(1, b"tidy") {
-        return Command::Tidy;
-    }
-    if is_help() {
-        return Command::Help;
-    }
-    Command::Unknown
-}
-
-fn wanted() -> Command {
-    if is_word(1, b"walk") {
-        return Command::Walk;
-    }
-    if is_word(1, b"check") {
-        return Command::Check;
-    }
-    if is_word(1, b"header") {
-        return Command::Header;
-    }
-    if is_word(1, b"resume") {
-        return Command::Resume;
-    }
-    other_command()
-}
-
-fn is_option(i: usize) -> bool {
-    if is_word(i, b"status") {
-        return true;
-    }
-    is_word(i, b"quirks")
-}
-
-// Whether what stands behind a file's name is options.
-fn are_options(count: usize) -> bool {
-    if count == 3 {
-        return true;
-    }
-    if count == 4 {
-        return is_option(3);
-    }
-    if count == 5 {
-        if is_option(3) {
-            return is_option(4);
-        }
-    }
-    false
-}
-
-fn is_asked(option: &[u8]) -> bool {
-    if is_word(3, option) {
-        return true;
-    }
-    is_word(4, option)
+    let n = os::arg(i, &mut room);
+    texts::number(
+        b"walk
+check
+header
+resume
+tidy
+help
+-h
+--help
+status
+quirks
+",
+        texts::front(&room, n),
+    )
 }
 
 // Help, to standard error where something else was asked.
-fn say_help(said: &mut [u8], amiss: bool) {
-    let at = prints::text(
-        said,
-        0,
+fn help(fd: i32) -> u64 {
+    io::write_all(
+        fd,
         b"warc walk FILE                      lists the records: start, body offset, length, type, date, target URI
 warc check FILE                     says where and why a file stops, and how many records were good
 warc header FILE [status] [quirks]  shows a header block: status, fields with their places, clean, tidy, grammatical
@@ -101,124 +47,138 @@ warc tidy FILE [status] [quirks]    writes the rebuilt header block
 FILE is a path, or - for standard input.
 ",
     );
-    if amiss {
-        warc_phrases::note(said, at);
-    } else {
-        warc_phrases::finish(said, at);
-    }
+    inputs::GOOD
 }
 
-fn help(amiss: bool) {
-    let mut said = [0u8; 4096];
-    say_help(&mut said, amiss);
-}
-
-fn misused() {
+fn misused() -> u64 {
     io::write_all(
         libc::STDERR_FILENO,
         b"warc: there is no such command, or these are not its arguments\n\n",
     );
-    help(true);
+    help(libc::STDERR_FILENO);
+    inputs::UNREAD
 }
 
-fn walk_in(room: &mut [u8], listed: bool) {
-    let n = os::arg(2, room);
-    if os::errno() != 0 {
-        os::fail(b"FILE");
-        return;
-    }
-    warc_listing::walk(warc_inputs::front(room, n), listed);
-}
-
-fn walk(count: usize, listed: bool) {
-    let mut room = io::buffer();
-    if count == 3 {
-        walk_in(&mut room, listed);
-    } else {
-        misused();
+fn is_option(word: usize) -> bool {
+    match word {
+        STATUS | QUIRKS => true,
+        _ => false,
     }
 }
 
-fn header_in(room: &mut [u8], rebuilt: bool) {
-    let n = os::arg(2, room);
-    if os::errno() != 0 {
-        os::fail(b"FILE");
-        return;
-    }
-    let status = is_asked(b"status");
-    let quirks = is_asked(b"quirks");
-    if rebuilt {
-        warc_verdicts::tidy(warc_inputs::front(room, n), status, quirks);
-    } else {
-        warc_display::header(warc_inputs::front(room, n), status, quirks);
-    }
-}
-
-fn header(count: usize, rebuilt: bool) {
-    let mut room = io::buffer();
-    if are_options(count) {
-        header_in(&mut room, rebuilt);
-    } else {
-        misused();
+// Whether what stands behind a file's name is options.
+fn are_options(count: usize, one: usize, two: usize) -> bool {
+    match count {
+        3 => true,
+        4 => is_option(one),
+        5 => {
+            if is_option(one) {
+                return is_option(two);
+            }
+            false
+        }
+        _ => false,
     }
 }
 
-fn resume_in(first: &mut [u8], second: &mut [u8]) {
-    let n = os::arg(2, first);
-    if os::errno() != 0 {
-        os::fail(b"FIRST");
-        return;
+fn is_either(one: usize, two: usize, wanted: usize) -> bool {
+    if one == wanted {
+        return true;
     }
-    let k = os::arg(3, second);
-    if os::errno() != 0 {
-        os::fail(b"SECOND");
-        return;
+    two == wanted
+}
+
+// Whether a command has the arguments that it wants.
+fn is_right(command: usize, count: usize, one: usize, two: usize) -> bool {
+    match command {
+        0 | 1 => count == 3,
+        2 | 4 => are_options(count, one, two),
+        3 => count == 4,
+        _ => false,
     }
-    warc_verdicts::resume(warc_inputs::front(first, n), warc_inputs::front(second, k));
 }
 
 // Standard input holds one file.
-fn are_both_input() -> bool {
-    if is_word(2, b"-") {
-        return is_word(3, b"-");
-    }
-    false
-}
-
-fn resume(count: usize) {
-    let mut first = io::buffer();
-    let mut second = io::buffer();
-    if count == 4 {
-        if are_both_input() {
-            misused();
-        } else {
-            resume_in(&mut first, &mut second);
+fn resume(first: &[u8], second: &[u8]) -> u64 {
+    if inputs::is_standard(first) {
+        if inputs::is_standard(second) {
+            return misused();
         }
-    } else {
-        misused();
+    }
+    blocks::resume(first, second)
+}
+
+fn act(command: usize, first: &[u8], second: &[u8], status: bool, quirks: bool) -> u64 {
+    match command {
+        0 => walks::walk(first, true),
+        1 => walks::walk(first, false),
+        2 => blocks::header(first, status, quirks, false),
+        3 => resume(first, second),
+        _ => blocks::header(first, status, quirks, true),
     }
 }
 
-fn run(command: Command, count: usize) {
-    match command {
-        Command::Walk => walk(count, true),
-        Command::Check => walk(count, false),
-        Command::Header => header(count, false),
-        Command::Resume => resume(count),
-        Command::Tidy => header(count, true),
-        Command::Help => help(false),
-        Command::Unknown => misused(),
+fn unnamed() -> u64 {
+    os::fail(b"FILE");
+    inputs::UNREAD
+}
+
+// A command with its files and options: arguments 2 and 3 are the files, 3 and 4 the options.
+fn with_files(command: usize, one: usize, two: usize) -> u64 {
+    let mut first = [0u8; 4096];
+    let mut second = [0u8; 4096];
+    let k = os::arg(3, &mut second);
+    let n = os::arg(2, &mut first);
+    if os::errno() != 0 {
+        return unnamed();
     }
+    act(
+        command,
+        texts::front(&first, n),
+        texts::front(&second, k),
+        is_either(one, two, STATUS),
+        is_either(one, two, QUIRKS),
+    )
 }
 
 // Without arguments: the help, and a walk of the sample.
-fn main() {
+fn sample() -> u64 {
+    help(libc::STDOUT_FILENO);
+    io::write_all(libc::STDOUT_FILENO, b"\nwarc walk sample.warc:\n");
+    walks::walk(b"sample.warc", true)
+}
+
+fn command(count: usize) -> u64 {
+    let command = word(1);
+    let one = word(3);
+    let two = word(4);
+    if is_right(command, count, one, two) {
+        return with_files(command, one, two);
+    }
+    match command {
+        5 | 6 | 7 => help(libc::STDOUT_FILENO),
+        _ => misused(),
+    }
+}
+
+fn run() -> u64 {
     let count = os::arg_count();
     if count <= 1 {
-        help(false);
-        io::write_all(libc::STDOUT_FILENO, b"\nwarc walk sample.warc:\n");
-        warc_listing::walk(b"sample.warc", true);
-    } else {
-        run(wanted(), count);
+        return sample();
     }
+    command(count)
+}
+
+fn digit(status: u64) -> u8 {
+    match status {
+        0 => b'0',
+        1 => b'1',
+        _ => b'2',
+    }
+}
+
+fn main() {
+    let status = run();
+    let line = [digit(status), b'\n'];
+    libc::write(STATUS_FILENO, &line);
 }

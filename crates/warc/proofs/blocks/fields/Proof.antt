@@ -1,31 +1,20 @@
--- `warc_display::fields` is safe and ends: the buffer keeps its length, and each turn says one field more. Assumes nothing.
-use Rattle.warc_display.proofs.fields.Statement.{statement}
-use Rattle.warc_display.proofs.fields.Tie as tie
+-- `warc::blocks::fields` is safe and ends: each turn says one field more. Assumes nothing.
 use borrow.Author.Needs.{needs}
-use mathlib.Core.Path.{_≡_}
 use Prim.Native.Nat.{_-_}
-use lib.ListN.{length}
+use Rattle.warc.proofs.blocks.fields.Statement.{statement}
+use Rattle.warc.proofs.blocks.fields.Tie as tie
 
 abbrev Inv-loop : tie.InvT-loop
-Inv-loop said₀ at block store n t at₀ i₀ said at' i = length said ≡ length said₀
+Inv-loop said₀ at n table block store at₀ i₀ said at' i = Unit {0}
 
 abbrev μ-loop : tie.MeasureT-loop
-μ-loop said₀ at block store n t at₀ i₀ said at' i = 256 - i
+μ-loop said₀ at n table block store at₀ i₀ said at' i = 256 - i
 
 loop-holds : tie.Need-loop-holds Inv-loop μ-loop
 loop-holds c = search needs
 
-same-length : tie.Need-same-length Inv-loop μ-loop
-same-length c = search needs
-
 returns : tie.Need-returns Inv-loop μ-loop
 returns c = search needs
-
-mul-f : tie.Need-mul-f Inv-loop μ-loop
-mul-f c = search needs
-
-array-copy-out-f : tie.Need-array-copy-out-f Inv-loop μ-loop
-array-copy-out-f c = search needs
 
 field-requires : tie.Need-field-requires Inv-loop μ-loop
 field-requires c κs = search needs
@@ -39,9 +28,6 @@ loop-less c = search needs
 loop-again : tie.Need-loop-again Inv-loop μ-loop
 loop-again c = search needs
 
-same-length-2 : tie.Need-same-length-2 Inv-loop μ-loop
-same-length-2 c = search needs
-
 returns-2 : tie.Need-returns-2 Inv-loop μ-loop
 returns-2 c = search needs
 
@@ -52,13 +38,9 @@ fields-spec =
     Inv-loop
     μ-loop
     loop-holds
-    same-length
     returns
-    mul-f
-    array-copy-out-f
     field-requires
     add-i
     loop-less
     loop-again
-    same-length-2
     returns-2)

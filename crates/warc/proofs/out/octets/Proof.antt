@@ -1,13 +1,11 @@
--- `warc_phrases::octets` is safe and ends: the buffer keeps its length, and each turn says one octet more. Assumes nothing.
-use Rattle.warc_phrases.proofs.octets.Statement.{statement}
-use Rattle.warc_phrases.proofs.octets.Tie as tie
+-- `warc::out::octets` is safe and ends: each turn looks at one octet more. Assumes nothing.
 use borrow.Author.Needs.{needs}
-use mathlib.Core.Path.{_≡_}
 use Prim.Native.Nat.{_-_}
-use lib.ListN.{length}
+use Rattle.warc.proofs.out.octets.Statement.{statement}
+use Rattle.warc.proofs.out.octets.Tie as tie
 
 abbrev Inv-loop : tie.InvT-loop
-Inv-loop said₀ at s least at₀ i₀ i-end said at' i = length said ≡ length said₀
+Inv-loop said₀ at s least at₀ i₀ i-end said at' i = Unit {0}
 
 abbrev μ-loop : tie.MeasureT-loop
 μ-loop said₀ at s least at₀ i₀ i-end said at' i = i-end - i
@@ -18,8 +16,8 @@ loop-holds c = search needs
 shared-slice-read-x : tie.Need-shared-slice-read-x Inv-loop μ-loop
 shared-slice-read-x c = search needs
 
-octet-requires : tie.Need-octet-requires Inv-loop μ-loop
-octet-requires c κs = search needs
+shown-requires : tie.Need-shown-requires Inv-loop μ-loop
+shown-requires c κs = search needs
 
 add-i : tie.Need-add-i Inv-loop μ-loop
 add-i c = search needs
@@ -29,9 +27,6 @@ loop-less c = search needs
 
 loop-again : tie.Need-loop-again Inv-loop μ-loop
 loop-again c = search needs
-
-same-length : tie.Need-same-length Inv-loop μ-loop
-same-length c = search needs
 
 returns : tie.Need-returns Inv-loop μ-loop
 returns c = search needs
@@ -44,9 +39,8 @@ octets-spec =
     μ-loop
     loop-holds
     shared-slice-read-x
-    octet-requires
+    shown-requires
     add-i
     loop-less
     loop-again
-    same-length
     returns)

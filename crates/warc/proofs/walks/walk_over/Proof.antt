@@ -1,0 +1,91 @@
+-- `warc::walks::walk_over` is safe and ends: the turns are counted. Assumes nothing.
+use borrow.Author.Needs.{needs}
+use native.Mathlib.Omega.{arith}
+use Prim.Native.Nat.{_-_}
+use Rattle.warc.proofs.walks.walk_over.Statement.{statement}
+use Rattle.warc.proofs.walks.walk_over.Tie as tie
+
+abbrev Inv-loop : tie.InvT-loop
+Inv-loop fd path listed typed₀ said₀ trail₀ head₀ table₀ block₀ store₀ record₀ taken₀ from₀ to₀ at₀ good₀ counter₀ typed said trail head table block store «record» taken from to at good counter = Unit {0}
+
+abbrev μ-loop : tie.MeasureT-loop
+μ-loop fd path listed typed₀ said₀ trail₀ head₀ table₀ block₀ store₀ record₀ taken₀ from₀ to₀ at₀ good₀ counter₀ typed said trail head table block store «record» taken from to at good counter = 18446744073709551615 - counter
+
+start-requires : tie.Need-start-requires Inv-loop μ-loop
+start-requires c κs = search needs
+
+loop-holds : tie.Need-loop-holds Inv-loop μ-loop
+loop-holds c = search needs
+
+fill-requires : tie.Need-fill-requires Inv-loop μ-loop
+fill-requires c κs = search needs
+
+is-over-requires : tie.Need-is-over-requires Inv-loop μ-loop
+is-over-requires c κs = search needs
+
+piece-requires : tie.Need-piece-requires Inv-loop μ-loop
+piece-requires c κs = search needs
+
+step-requires : tie.Need-step-requires Inv-loop μ-loop
+step-requires c κs = search needs
+
+wrapping-add-u64-requires : tie.Need-wrapping-add-u64-requires Inv-loop μ-loop
+wrapping-add-u64-requires c κs = search needs
+
+passed-requires : tie.Need-passed-requires Inv-loop μ-loop
+passed-requires c κs = search needs
+
+wrapping-add-u64-requires-2 : tie.Need-wrapping-add-u64-requires-2 Inv-loop μ-loop
+wrapping-add-u64-requires-2 c κs = search needs
+
+list-requires : tie.Need-list-requires Inv-loop μ-loop
+list-requires c κs = search needs
+
+add-counter : tie.Need-add-counter Inv-loop μ-loop
+add-counter c = omega (arith, c .before .before .before .before .before .before .before .before .before .before .before .before .before .before .before .before .before .before .before .before .before .before .before .before .before .loop-test .taken)
+
+loop-less : tie.Need-loop-less Inv-loop μ-loop
+loop-less c = omega (arith, c .before .before .before .before .before .before .before .before .before .before .before .before .before .before .before .before .before .before .before .before .before .before .before .before .before .loop-test .taken)
+
+loop-again : tie.Need-loop-again Inv-loop μ-loop
+loop-again c = search needs
+
+end-requires : tie.Need-end-requires Inv-loop μ-loop
+end-requires c κs = search needs
+
+array-read-conclude : tie.Need-array-read-conclude Inv-loop μ-loop
+array-read-conclude c = search needs
+
+whole-requires : tie.Need-whole-requires Inv-loop μ-loop
+whole-requires c κs = search needs
+
+conclude-requires : tie.Need-conclude-requires Inv-loop μ-loop
+conclude-requires c κs = search needs
+
+returns : tie.Need-returns Inv-loop μ-loop
+returns c = search needs
+
+pub walk-over-spec : {M : Type 1} → statement M
+walk-over-spec =
+    tie.close
+    (tie.spec
+    Inv-loop
+    μ-loop
+    start-requires
+    loop-holds
+    fill-requires
+    is-over-requires
+    piece-requires
+    step-requires
+    wrapping-add-u64-requires
+    passed-requires
+    wrapping-add-u64-requires-2
+    list-requires
+    add-counter
+    loop-less
+    loop-again
+    end-requires
+    array-read-conclude
+    whole-requires
+    conclude-requires
+    returns)

@@ -1,0 +1,431 @@
+// A file's header block: shown, or written rebuilt; of two, whether a body may be appended to another.
+use crate::forms;
+use crate::inputs;
+use crate::out;
+use crate::texts;
+
+// Answers of the reader.
+const MORE: u32 = 64;
+
+const BLANK: u32 = 65;
+
+const INPUT: u32 = 66;
+
+// The limit of a block, and the room of its store.
+const LIMIT: usize = 32768;
+
+// What ended a block, and the octets that it took; the answer is 0 where its file could not be opened or read, which was said.
+struct Ended {
+    answer: u32,
+    taken: u64,
+}
+
+fn begin(
+    head: &mut [u64; 13],
+    table: &[u32; 1024],
+    block: &[u8; 32768],
+    store: &[u8; 32768],
+    status: bool,
+    quirks: bool,
+) {
+    abi::reading::bisquecrow_begin(head, table, LIMIT, LIMIT, status, quirks, block, store);
+}
+
+fn feed(
+    head: &mut [u64; 13],
+    table: &mut [u32; 1024],
+    block: &mut [u8; 32768],
+    store: &mut [u8; 32768],
+    piece: &[u8],
+    taken: &mut u64,
+) -> u32 {
+    abi::reading::bisquecrow_feed(head, table, block, store, piece, taken)
+}
+
+// What ended a block whose last read answered n. Finishing changes nothing of a block that has ended.
+fn finish(
+    n: u64,
+    answer: u32,
+    head: &mut [u64; 13],
+    table: &mut [u32; 1024],
+    block: &[u8; 32768],
+    store: &mut [u8; 32768],
+) -> u32 {
+    let finished = abi::reading::bisquecrow_finish(head, table, block, store);
+    match n {
+        0 => finished,
+        inputs::FAILED => 0,
+        _ => answer,
+    }
+}
+
+fn is_over(n: u64) -> bool {
+    match n {
+        0 | inputs::FAILED => true,
+        _ => false,
+    }
+}
+
+// Opens a file and reads its header block in large pieces, until one ends it or nothing more comes.
+fn load(
+    path: &[u8],
+    status: bool,
+    quirks: bool,
+    head: &mut [u64; 13],
+    table: &mut [u32; 1024],
+    block: &mut [u8; 32768],
+    store: &mut [u8; 32768],
+) -> Ended {
+    let mut typed = [0u8; 262144];
+    let mut taken = 0u64;
+    let mut all = 0u64;
+    let mut n = 0u64;
+    let mut answer = MORE;
+    let fd = inputs::open(path);
+    begin(head, table, block, store, status, quirks);
+    for _ in 0..inputs::TURNS {
+        n = inputs::read(fd, path, &mut typed);
+        if is_over(n) {
+            break;
+        }
+        answer = feed(
+            head,
+            table,
+            block,
+            store,
+            inputs::piece(&typed, 0, n),
+            &mut taken,
+        );
+        all = std::num::wrapping_add_u64(all, taken);
+        if answer != MORE {
+            break;
+        }
+    }
+    inputs::close(fd);
+    Ended {
+        answer: finish(n, answer, head, table, block, store),
+        taken: all,
+    }
+}
+
+fn wide(n: u32) -> u64 {
+    n as u64
+}
+
+// The first n fields, with their places.
+fn fields<'a>(
+    said: &mut [u8; 65536],
+    at: usize,
+    n: u64,
+    table: &[u32; 1024],
+    block: &'a [u8; 32768],
+    store: &'a [u8; 32768],
+) -> usize {
+    let mut at = at;
+    for i in 0..256 {
+        if i as u64 >= n {
+            return at;
+        }
+        at = field(said, at, i, table, block, store);
+    }
+    at
+}
+
+// The table's number j of field i.
+fn entry(table: &[u32; 1024], i: usize, j: usize) -> u64 {
+    if i < 256 {
+        if j < 4 {
+            let k = i * 4 + j;
+            return wide(table[k]);
+        }
+    }
+    0
+}
+
+fn field<'a>(
+    said: &mut [u8; 65536],
+    at: usize,
+    i: usize,
+    table: &[u32; 1024],
+    block: &'a [u8; 32768],
+    store: &'a [u8; 32768],
+) -> usize {
+    let a = entry(table, i, 0);
+    let b = entry(table, i, 1);
+    let c = entry(table, i, 2);
+    let d = entry(table, i, 3);
+    forms::say(
+        said,
+        at,
+        forms::FIELD,
+        &[i as u64, a, b, c, d, a, b, c, d],
+        block,
+        store,
+    )
+}
+
+// Where the offsets of a status begin, by its kind.
+fn base(kind: u64) -> u64 {
+    match kind {
+        2 => forms::STORE,
+        _ => 0,
+    }
+}
+
+// The form for a status of a kind.
+fn status_form(kind: u64) -> usize {
+    match kind {
+        0 => forms::NO_STATUS,
+        _ => forms::STATUS,
+    }
+}
+
+fn say_status<'a>(
+    said: &mut [u8; 65536],
+    at: usize,
+    head: &[u64; 13],
+    block: &'a [u8; 32768],
+    store: &'a [u8; 32768],
+) -> usize {
+    let kind = head[6];
+    let from = std::num::wrapping_add_u64(head[7], base(kind));
+    let to = std::num::wrapping_add_u64(head[8], base(kind));
+    forms::say(
+        said,
+        at,
+        status_form(kind),
+        &[from, to, from, to],
+        block,
+        store,
+    )
+}
+
+// What the three tests say.
+fn tests<'a>(
+    said: &mut [u8; 65536],
+    at: usize,
+    clean: u32,
+    octets: &[u8],
+    status: bool,
+    quirks: bool,
+) -> usize {
+    let tidy = abi::telling::bisquecrow_tidy(octets, status, quirks, LIMIT);
+    let grammatical = abi::telling::bisquecrow_grammatical(octets);
+    forms::say(
+        said,
+        at,
+        forms::TESTS,
+        &[wide(clean), wide(tidy), wide(grammatical)],
+        octets,
+        octets,
+    )
+}
+
+// What ended a block.
+fn say_ending(said: &mut [u8; 65536], answer: u32, taken: u64) -> usize {
+    match answer {
+        BLANK => forms::tell(said, forms::BLANK, taken, 0, 0, 0),
+        INPUT => forms::tell(said, forms::INPUT, taken, 0, 0, 0),
+        _ => forms::tell(said, forms::REFUSED, wide(answer), taken, 0, 0),
+    }
+}
+
+// A block that was read, in words; of one that was refused nothing stands.
+fn show<'a>(
+    answer: u32,
+    taken: u64,
+    status: bool,
+    quirks: bool,
+    head: &[u64; 13],
+    table: &[u32; 1024],
+    block: &'a [u8; 32768],
+    store: &'a [u8; 32768],
+) -> u64 {
+    let mut said = [0u8; 65536];
+    let a = say_ending(&mut said, answer, taken);
+    if answer < MORE {
+        out::flush(libc::STDOUT_FILENO, &said, a);
+        return inputs::BAD;
+    }
+    let b = say_status(&mut said, a, head, block, store);
+    let c = fields(&mut said, b, head[5], table, block, store);
+    let clean = abi::telling::bisquecrow_clean(head, table, block, store);
+    let d = tests(
+        &mut said,
+        c,
+        clean,
+        texts::front(block, taken as usize),
+        status,
+        quirks,
+    );
+    inputs::written(out::flush(libc::STDOUT_FILENO, &said, d))
+}
+
+// Writes a map's rebuilt block.
+fn rebuild<'a>(
+    path: &[u8],
+    answer: u32,
+    head: &[u64; 13],
+    table: &[u32; 1024],
+    block: &'a [u8; 32768],
+    store: &'a [u8; 32768],
+) -> u64 {
+    let mut sheet = [0u8; 65536];
+    let mut count = 0u64;
+    if is_read(path, answer) {
+        abi::writing::bisquecrow_rebuild(head, table, block, store, &mut sheet, &mut count);
+        return inputs::written(out::flush(libc::STDOUT_FILENO, &sheet, count as usize));
+    }
+    inputs::BAD
+}
+
+// Whether a block was read; what is amiss is said.
+fn is_read(path: &[u8], answer: u32) -> bool {
+    match answer {
+        BLANK => true,
+        INPUT => {
+            inputs::remark(forms::CUT_OFF, path, answer);
+            true
+        }
+        _ => {
+            inputs::remark(forms::REFUSES, path, answer);
+            false
+        }
+    }
+}
+
+// Shows a file's header block, or writes it rebuilt.
+pub fn header(path: &[u8], status: bool, quirks: bool, rebuilt: bool) -> u64 {
+    let mut head = [0u64; 13];
+    let mut table = [0u32; 1024];
+    let mut block = [0u8; 32768];
+    let mut store = [0u8; 32768];
+    let ended = load(
+        path,
+        status,
+        quirks,
+        &mut head,
+        &mut table,
+        &mut block,
+        &mut store,
+    );
+    let answer = ended.answer;
+    if answer == 0 {
+        return inputs::UNREAD;
+    }
+    if rebuilt {
+        return rebuild(path, answer, &head, &table, &block, &store);
+    }
+    show(
+        answer,
+        ended.taken,
+        status,
+        quirks,
+        &head,
+        &table,
+        &block,
+        &store,
+    )
+}
+
+// The form for a resume check's answer.
+fn verdict(answer: u32) -> usize {
+    match answer {
+        80 => forms::APPEND,
+        81 => forms::NO_TAG,
+        82 => forms::DIFFER,
+        83 => forms::NOT_PARTIAL,
+        INPUT => forms::NOT_WHOLE,
+        _ => forms::NOT_READ,
+    }
+}
+
+// Says whether the body may be appended.
+fn say_verdict(answer: u32) -> u64 {
+    let mut said = [0u8; 65536];
+    let at = forms::tell(&mut said, verdict(answer), 0, 0, 0, 0);
+    let next = out::flush(libc::STDOUT_FILENO, &said, at);
+    match answer {
+        80 => inputs::written(next),
+        _ => inputs::BAD,
+    }
+}
+
+// The status of a block that was read to its blank line is good: a cut-off one's last field may be the beginning of another.
+fn whole(path: &[u8], answer: u32) -> u64 {
+    match answer {
+        0 => inputs::UNREAD,
+        BLANK => inputs::GOOD,
+        INPUT => {
+            inputs::remark(forms::CUT_OFF, path, answer);
+            say_verdict(answer)
+        }
+        _ => {
+            inputs::remark(forms::REFUSES, path, answer);
+            inputs::BAD
+        }
+    }
+}
+
+fn judge<'a>(
+    head: &[u64; 13],
+    table: &[u32; 1024],
+    block: &'a [u8; 32768],
+    store: &'a [u8; 32768],
+    head2: &[u64; 13],
+    table2: &[u32; 1024],
+    block2: &'a [u8; 32768],
+    store2: &'a [u8; 32768],
+) -> u32 {
+    abi::telling::bisquecrow_resume(head, table, block, store, head2, table2, block2, store2)
+}
+
+// The first block was read.
+fn compare<'a>(
+    head: &[u64; 13],
+    table: &[u32; 1024],
+    block: &'a [u8; 32768],
+    store: &'a [u8; 32768],
+    second: &[u8],
+) -> u64 {
+    let mut head2 = [0u64; 13];
+    let mut table2 = [0u32; 1024];
+    let mut block2 = [0u8; 32768];
+    let mut store2 = [0u8; 32768];
+    let ended = load(
+        second,
+        true,
+        false,
+        &mut head2,
+        &mut table2,
+        &mut block2,
+        &mut store2,
+    );
+    let status = whole(second, ended.answer);
+    if status == inputs::GOOD {
+        return say_verdict(judge(head, table, block, store, &head2, &table2, &block2, &store2));
+    }
+    status
+}
+
+// Says whether the body of the second of two HTTP answers may be appended to that of the first.
+pub fn resume(first: &[u8], second: &[u8]) -> u64 {
+    let mut head = [0u64; 13];
+    let mut table = [0u32; 1024];
+    let mut block = [0u8; 32768];
+    let mut store = [0u8; 32768];
+    let ended = load(
+        first,
+        true,
+        false,
+        &mut head,
+        &mut table,
+        &mut block,
+        &mut store,
+    );
+    let status = whole(first, ended.answer);
+    if status == inputs::GOOD {
+        return compare(&head, &table, &block, &store, second);
+    }
+    status
+}
