@@ -1,5 +1,6 @@
 // Standard input, a line at a time.
 use crate::memory;
+use crate::prints;
 
 // The line at hand lies from `from` to before `to` of what was read, which ends at `end`. Ready says that there is one, over that
 // nothing is to come.

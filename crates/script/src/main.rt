@@ -9,6 +9,7 @@ mod memory;
 mod names;
 mod numbers;
 mod orders;
+mod prints;
 mod shows;
 mod state;
 mod told;

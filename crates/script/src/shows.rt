@@ -1,5 +1,6 @@
 // How answers are printed.
 use crate::memory;
+use crate::prints;
 use crate::state;
 use crate::state::State;
 use crate::told;

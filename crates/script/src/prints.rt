@@ -1,6 +1,4 @@
 // What is printed, by way of a lent buffer. Each call answers where in the buffer the next character goes.
-use leaves::refusals::Refusal;
-
 pub fn character(said: &mut [u8], at: usize, x: u8) -> usize {
     if at < said.len() {
         said[at] = x;
@@ -22,7 +20,7 @@ pub fn flush(said: &[u8], at: usize) -> usize {
     0
 }
 
-pub fn text(said: &mut [u8], at: usize, words: &[u8]) -> usize {
+fn text(said: &mut [u8], at: usize, words: &[u8]) -> usize {
     let mut at = at;
     for i in 0..words.len() {
         let x = words[i];
@@ -65,23 +63,9 @@ pub fn decimal(said: &mut [u8], at: usize, n: u64) -> usize {
     text(said, at, &digits[..k])
 }
 
-pub fn number(said: &mut [u8], at: usize, n: usize) -> usize {
-    decimal(said, at, n as u64)
-}
-
 pub fn flag(said: &mut [u8], at: usize, x: bool) -> usize {
     if x {
         return character(said, at, b'1');
     }
     character(said, at, b'0')
-}
-
-pub fn refusal(said: &mut [u8], at: usize, r: Refusal) -> usize {
-    let sign = character(said, at, b'!');
-    let n = leaves::refusals::number(r);
-    decimal(said, sign, long(n))
-}
-
-fn long(x: u8) -> u64 {
-    x as u64
 }

@@ -1,10 +1,10 @@
--- `prints::octets` is safe and ends: the buffer keeps its length, and each turn says one octet more. Assumes nothing.
+-- `script::prints::octets` is safe and ends: the buffer keeps its length, and each turn says one octet more. Assumes nothing.
 use borrow.Author.Needs.{needs}
 use mathlib.Core.Path.{_≡_}
 use Prim.Native.Nat.{_-_}
 use lib.ListN.{length}
-use Rattle.prints.proofs.octets.Statement.{statement}
-use Rattle.prints.proofs.octets.Tie as tie
+use Rattle.script.proofs.prints.octets.Statement.{statement}
+use Rattle.script.proofs.prints.octets.Tie as tie
 
 abbrev Inv-loop : tie.InvT-loop
 Inv-loop said₀ at s at₀ i₀ i-end said at' i = length said ≡ length said₀

@@ -1,10 +1,10 @@
--- `prints::text` is safe and ends: the buffer keeps its length, and each turn says one character more. Assumes nothing.
+-- `script::prints::text` is safe and ends: the buffer keeps its length, and each turn says one character more. Assumes nothing.
 use borrow.Author.Needs.{needs}
 use mathlib.Core.Path.{_≡_}
 use Prim.Native.Nat.{_-_}
 use lib.ListN.{length}
-use Rattle.prints.proofs.text.Statement.{statement}
-use Rattle.prints.proofs.text.Tie as tie
+use Rattle.script.proofs.prints.text.Statement.{statement}
+use Rattle.script.proofs.prints.text.Tie as tie
 
 abbrev Inv-loop : tie.InvT-loop
 Inv-loop said₀ at words at₀ i₀ i-end said at' i = length said ≡ length said₀
