@@ -1,8 +1,8 @@
 -- What a turn makes of a table by value, and what a reading that stopped gives as the map and the loans of a call. Assumes nothing.
-use mathlib.Core.Path.{_≡_, refl, sym, ap, _∙_}
-use mathlib.Core.Bool.{Bool, false}
+use mathlib.Core.Path.{_≡_, refl, sym, ap, subst, _∙_}
+use mathlib.Core.Bool.{Bool, true, false}
 use mathlib.Core.List.{List, []}
-use Prim.Native.Nat.{ℕ, _-_, _≤_, _<_}
+use Prim.Native.Nat.{ℕ, _+_, _-_, _≤_, _<_}
 use native.Mathlib.Omega.{arith}
 use lib.ListN.{length, take, drop, getD, set}
 use lib.Seq.{length-take-le, set-getD}
@@ -17,12 +17,12 @@ use Rattle.folds.specs.declared.Change.{Change}
 use Rattle.folds.specs.declared.Change.the-variants.{Nothing, Status as Headed, Put, Refused as Stops}
 use Rattle.folds.proofs.ListLaws.{laid}
 use Rattle.line_reader.specs.Standing.{rulesOf, answering}
-use Rattle.line_reader.specs.Turns.{Puts, slotOf, putIn}
+use Rattle.line_reader.specs.Turns.{Puts, slotOf, putIn, turning}
 use Rattle.line_reader.specs.declared.Answer.{Answer}
 use Rattle.line_reader.specs.declared.Answer.the-variants.{More, Blank, Input, Refused}
 use Rattle.line_reader.specs.declared.Turn.{Turn}
-use Rattle.line_reader.proofs.HeldLaws.{Frame, frameOf, Held, held-start, goOn, Feeding}
-use Rattle.line_reader.proofs.LineSteps.{Seated, seated, Ended}
+use Rattle.line_reader.proofs.HeldLaws.{Frame, frameOf, Held, held-start, goOn, Feeding, feeding-on, later, one, turn-less}
+use Rattle.line_reader.proofs.LineSteps.{Seated, seated, Turned, turn-is, Ended}
 use Rattle.reader.specs.Calls.{gives, fedFrom, finishedFrom}
 use Rattle.reader.specs.Heads.{headAfter, spotOf}
 use Rattle.reader.specs.declared.Fed.{Fed}
@@ -47,6 +47,21 @@ module _ (t : List Field) (c : Change) {i n : ℕ} (place : i ≡ n - 1) (few : 
 
   pub spot-put : set t (k .slot) (k .field) ≡ putIn t c
   spot-put = rw e (put-spot t c i)
+
+-- a turn of the loop, by the change that it made
+module _ {p b₀ s₀ b s : List ℕ} {m : HeaderMap} {at : ℕ} {a : Answer} {going : Bool} (t : List Field) (h : Head) (inv : Feeding p m b₀ s₀ 0 (under t h) b s at a going)
+    (go : going ≡ true) {i : ℕ} (place : i ≡ h .fields - 1) {r : Turn} {b′ s′ : List ℕ} (w : Is (turning h (getD t i noField) b s p at) r b′ s′) where
+  turned : Turned p t h b s at r b′ s′
+  turned = turn-is (seated t h (inv .held) place) p at (inv .held .read) w
+
+  pub turn-nears : (length p - r .taken) + one (r .going) < (length p - at) + one going
+  turn-nears = turn-less (length p) at (r .taken) going (r .going) go (later (turned .feeds .held)) (turned .feeds .held .read) (turned .further)
+
+  pub turn-on : {c : Change} → r .change ≡ c → Feeding p m b₀ s₀ 0 (under (putIn t c) (r .head)) b′ s′ (r .taken) (r .answer) (r .going)
+  turn-on e = subst (λ (c : Change). Feeding p m b₀ s₀ 0 (under (putIn t c) (r .head)) b′ s′ (r .taken) (r .answer) (r .going)) e (feeding-on inv go (turned .feeds))
+
+  pub turn-puts : {c : Change} → r .change ≡ c → Puts c
+  turn-puts e = subst Puts e (turned .puts)
 
 abbrev framed : Frame → Head → Head
 framed f h =

@@ -127,7 +127,8 @@ fn map_under(table: [Field; 256], h: Head) -> HeaderMap
     }
 }
 
-// The field that a change puts, and where; a change that puts none leaves the last field where it is.
+// The field that a change puts, and where; a change that puts none leaves the last field where it is. A loop over lines does better to
+// match on the change.
 fn spot_of(change: Change, slot: usize, last: Field) -> Spot
     ensures { λ r. ⌜ r ≡ spotOf change slot last ⌝ }
 {
@@ -154,14 +155,18 @@ fn feed_lines(m: HeaderMap, block: &mut [u8], store: &mut [u8], piece: &[u8]) ->
         let last = t[slot];
         let turn = line_reader::take_turn(h, last, block, store, piece, at);
         let change = turn.change;
-        let spot = spot_of(change, slot, last);
-        let to = spot.slot;
-        let x = spot.field;
-        t[to] = x;
         h = turn.head;
         at = turn.taken;
         answer = turn.answer;
         going = turn.going;
+        match change {
+            Change::Nothing => {}
+            Change::Status(p) => {}
+            Change::Put(to, x, mark) => {
+                t[to] = x;
+            }
+            Change::Refused(e) => {}
+        }
     }
     let head = head_after(answer, h);
     let map = map_under(t, head);
