@@ -43,7 +43,7 @@ fn main() {
         }
         let o = orders::read(&typed, c, s.place);
         let word = o.word;
-        let numbers = state::numbers_of(s, o);
+        let numbers = o.numbers;
         let n = orders::lay(&typed, c, word, numbers, &mut desk);
         s = state::lending(s, word, numbers);
         state::prepare_both(&mut block, &mut store, s, word);
@@ -72,7 +72,7 @@ fn main() {
             &mut desk,
             s,
         );
-        at = shows::said_of(
+        at = shows::say(
             &mut said,
             at,
             t,
