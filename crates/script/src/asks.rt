@@ -108,7 +108,7 @@ pub fn ask<'a>(
         b'g' => find(head, table, block, store, one, numbers[1]),
         b'l' | b'T' | b'G' => of_octets(word, numbers, one),
         b'd' => told::plain(told::MAP),
-        b'm' => told::numbered(told::LOANS, numbers[0] as u64, numbers[1] as u64, 0),
+        b'm' => told::plain(told::LOANS),
         b'?' => told::numbered(told::COLUMN, numbers[0] as u64, 0, 0),
         _ => told::plain(told::DONE),
     }

@@ -57,12 +57,10 @@ fn put_place(table: &mut [u32], numbers: [usize; 8]) {
     put_number(table, std::num::wrapping_add_usize(i, 1), numbers[4]);
 }
 
+// A walker's parts are numbered from POSITION on.
 pub fn damage(numbers: [usize; 8], trail: &mut [u64], head: &mut [u64], table: &mut [u32]) -> u32 {
-    put(
-        trail,
-        std::num::wrapping_sub_usize(numbers[0], names::POSITION),
-        numbers[1],
-    );
+    let i = std::num::wrapping_sub_usize(numbers[0], names::POSITION);
+    put(trail, i, numbers[1]);
     put_head(head, numbers);
     put_place(table, numbers);
     0

@@ -73,17 +73,6 @@ fn read_on(typed: &mut [u8], n: usize) -> Input {
     read_behind(n, 0)
 }
 
-// The next line in what was read; else reads on behind the rest of it.
-fn step(typed: &mut [u8], c: Input) -> Input {
-    let to = line_end(typed, c.from, c.end);
-    if to < c.end {
-        return held(c.from, to, c.end, true);
-    }
-    let n = left(c);
-    memory::shift(typed, c.from, 0, n);
-    read_on(typed, n)
-}
-
 // How much was read and is not used up.
 fn left(c: Input) -> usize {
     if c.from <= c.end {
@@ -92,12 +81,18 @@ fn left(c: Input) -> usize {
     0
 }
 
-// One step to the next line, where none is at hand.
+// One step to the next line, where none is at hand: it is found in what was read, or more is read behind the rest of it.
 pub fn next(typed: &mut [u8], c: Input) -> Input {
     if c.ready {
         return c;
     }
-    step(typed, c)
+    let to = line_end(typed, c.from, c.end);
+    if to < c.end {
+        return held(c.from, to, c.end, true);
+    }
+    let n = left(c);
+    memory::shift(typed, c.from, 0, n);
+    read_on(typed, n)
 }
 
 // Writes out what was said, where all that was read is used up.

@@ -44,7 +44,7 @@ fn main() {
         }
         let o = orders::read(&typed, c, s.place);
         let word = o.word;
-        let numbers = state::numbers_of(s, o);
+        let numbers = o.numbers;
         let n = orders::lay(&typed, c, word, numbers, &mut desk);
         s = state::lending(s, word, numbers);
         state::prepare_both(&mut block, &mut store, s, word);
@@ -73,7 +73,7 @@ fn main() {
             &mut desk,
             s,
         );
-        at = shows::said_of(
+        at = shows::say(
             &mut said,
             at,
             t,

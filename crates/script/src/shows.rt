@@ -44,21 +44,16 @@ fn text(said: &mut [u8], at: usize, letters: u64, numbers: [u64; 3]) -> usize {
     at
 }
 
-// A place with its octets, as `b0.1=41`.
+// A text with a place in it, as `b0.1=`, and the octets there.
 fn place(said: &mut [u8], at: usize, letters: u64, from: u64, to: u64, loan: &[u8]) -> usize {
     let behind = text(said, at, letters, [from, to, 0]);
     prints::octets(said, behind, memory::part(loan, from, to))
 }
 
-// `b#.#=` and `s#.#=`.
-const BLOCK_PLACE: u64 = 262583231330;
-
-const STORE_PLACE: u64 = 262583231347;
-
-// How the place k of a list of fields is said: behind `:` a value, behind `;` a key, but the first.
+// How the place k of a list of fields is said: behind `,` the first key, behind `:` a value, behind `;` another key.
 fn block_text(k: usize) -> u64 {
     if k == 0 {
-        return BLOCK_PLACE;
+        return 67221307220524; // ,b#.#=
     }
     match k % 2 {
         0 => 67221307220539, // ;b#.#=
@@ -68,7 +63,7 @@ fn block_text(k: usize) -> u64 {
 
 fn store_text(k: usize) -> u64 {
     if k == 0 {
-        return STORE_PLACE;
+        return 67221307224876; // ,s#.#=
     }
     match k % 2 {
         0 => 67221307224891, // ;s#.#=
@@ -124,17 +119,17 @@ fn status(said: &mut [u8], at: usize, head: &[u64; 13], block: &[u8], store: &[u
     let kind = head[6];
     match kind {
         0 => prints::character(said, at, b'-'),
-        1 => place(said, at, BLOCK_PLACE, head[7], head[8], block),
-        _ => place(said, at, STORE_PLACE, head[7], head[8], store),
+        1 => place(said, at, 262583231330, head[7], head[8], block), // b#.#=
+        _ => place(said, at, 262583231347, head[7], head[8], store), // s#.#=
     }
 }
 
-// `R,#,#,#,` and `D,#,#,#,`.
+// `R,#,#,#` and `D,#,#,#`.
 fn phase_text(phase: u64) -> u64 {
     if phase == 1 {
-        return 3180434291429682258;
+        return 9900153760853074;
     }
-    3180434291429682244
+    9900153760853060
 }
 
 // Phase, edited, count, line, mark, status, fields.
@@ -147,13 +142,12 @@ fn map(
     store: &[u8],
 ) -> usize {
     let a = text(said, at, phase_text(head[12]), [head[11], head[2], head[3]]);
-    let b = text(said, a, 11299, [head[4], 0, 0]); // #,
+    let b = text(said, a, 2892588, [head[4], 0, 0]); // ,#,
     let c = status(said, b, head, block, store);
-    let d = prints::character(said, c, b',');
     if head[5] == 0 {
-        return prints::character(said, d, b'-');
+        return text(said, c, 11564, [0; 3]); // ,-
     }
-    list(said, d, table, head[5], block, store)
+    list(said, c, table, head[5], block, store)
 }
 
 // The octets up to limit and room, and whether any past them changed.
@@ -175,59 +169,48 @@ fn loans(
     prints::flag(said, d, memory::is_touched(store, room))
 }
 
-// What a word answered.
-fn say(
+// The octets that an answer shows.
+fn shown<'a>(t: Told, block: &'a [u8], store: &'a [u8], desk: &'a [u8]) -> &'a [u8] {
+    let answer = t.answer;
+    match answer {
+        told::IN_BLOCK => memory::part(block, t.a, t.b),
+        told::IN_STORE => memory::part(store, t.a, t.b),
+        _ => memory::part(desk, t.a, t.b),
+    }
+}
+
+// What a word answered, behind what stands before it. Block and store are the memory that the loans are in.
+pub fn say<'a>(
     said: &mut [u8],
     at: usize,
     t: Told,
     word: u8,
     head: &[u64; 13],
     table: &[u32; 1024],
-    block: &[u8],
-    store: &[u8],
-    desk: &[u8],
+    block: &'a [u8],
+    store: &'a [u8],
+    desk: &'a [u8],
+    s: State,
 ) -> usize {
     let answer = t.answer;
+    let block = memory::front(block, s.block);
+    let store = memory::front(store, s.store);
+    let gap = text(said, at, state::separator(s, word), [0; 3]);
     let first = text(
         said,
-        at,
+        gap,
         told::text_of(answer, word),
         [told::first_of(t), t.b, 0],
     );
     let behind = text(said, first, told::tail_of(answer, word), [t.c, t.d, t.e]);
     match answer {
-        told::IN_BLOCK => prints::octets(said, behind, memory::part(block, t.a, t.b)),
-        told::IN_STORE => prints::octets(said, behind, memory::part(store, t.a, t.b)),
-        told::BODY | told::SHEET => prints::octets(said, behind, memory::part(desk, t.a, t.b)),
+        told::IN_BLOCK | told::IN_STORE | told::BODY | told::SHEET => prints::octets(
+            said,
+            behind,
+            shown(t, block, store, desk),
+        ),
         told::MAP => map(said, behind, head, table, block, store),
-        told::LOANS => loans(said, behind, t.a as usize, t.b as usize, block, store),
+        told::LOANS => loans(said, behind, s.limit, s.room, block, store),
         _ => behind,
     }
-}
-
-// The same behind what stands before it, on the memory that the loans are in.
-pub fn said_of(
-    said: &mut [u8],
-    at: usize,
-    t: Told,
-    word: u8,
-    head: &[u64; 13],
-    table: &[u32; 1024],
-    block: &[u8; 140000],
-    store: &[u8; 140000],
-    desk: &[u8; 140000],
-    s: State,
-) -> usize {
-    let behind = text(said, at, state::separator(s, word), [0; 3]);
-    say(
-        said,
-        behind,
-        t,
-        word,
-        head,
-        table,
-        memory::front(block, s.block),
-        memory::front(store, s.store),
-        desk,
-    )
 }

@@ -81,16 +81,6 @@ pub fn keeps(word: u8) -> bool {
     }
 }
 
-// The numbers that a word names; `m` has limit and room for them.
-pub fn numbers_of(s: State, o: Order) -> [usize; 8] {
-    let mut numbers = o.numbers;
-    if o.word == b'm' {
-        numbers[0] = s.limit;
-        numbers[1] = s.room;
-    }
-    numbers
-}
-
 // What stands before an answer: nothing at the start and at the end of a line, `/` between the calls on one piece, else a space.
 pub fn separator(s: State, word: u8) -> u64 {
     match word {

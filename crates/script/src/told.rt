@@ -28,7 +28,7 @@ pub const BODY: u32 = 74;
 
 const FIRST: u32 = 64;
 
-// Further answers: octets that were written, c of them; the map; the loans with their limit and room; the column of what makes no sense.
+// Further answers: octets that were written, c of them; the map; the loans; the column of what makes no sense.
 pub const SHEET: u32 = 90;
 
 pub const MAP: u32 = 91;

@@ -18,12 +18,11 @@ use Rattle.script.proofs.memory.table.Reads as table-reads
 use Rattle.script.proofs.orders.ends_line.Reads as ends-line-reads
 use Rattle.script.proofs.orders.lay.Reads as lay-reads
 use Rattle.script.proofs.orders.read.Reads as read-reads
-use Rattle.script.proofs.shows.said_of.Reads as said-of-reads
+use Rattle.script.proofs.shows.say.Reads as say-reads
 use Rattle.script.proofs.state.behind.Reads as state-behind-reads
 use Rattle.script.proofs.state.fresh.Reads as fresh-reads
 use Rattle.script.proofs.state.keeps.Reads as keeps-reads
 use Rattle.script.proofs.state.lending.Reads as lending-reads
-use Rattle.script.proofs.state.numbers_of.Reads as numbers-of-reads
 use Rattle.script.proofs.state.prepare_both.Reads as prepare-both-reads
 
 abbrev Inv-loop : tie.InvT-loop
@@ -82,9 +81,6 @@ returns c = search needs
 read-requires : tie.Need-read-requires Inv-loop μ-loop
 read-requires c κs = search needs
 
-numbers-of-requires : tie.Need-numbers-of-requires Inv-loop μ-loop
-numbers-of-requires c κs = search needs
-
 slice-aggregate-lay : tie.Need-slice-aggregate-lay Inv-loop μ-loop
 slice-aggregate-lay c = search needs
 
@@ -121,11 +117,20 @@ slice-aggregate-answered c = search needs
 answered-requires : tie.Need-answered-requires Inv-loop μ-loop
 answered-requires c κs = search needs
 
-slice-aggregate-said-of : tie.Need-slice-aggregate-said-of Inv-loop μ-loop
-slice-aggregate-said-of c = sym (c .before .before .before .before .before .before .before .before .before .before .before .before .before .before .before .before .before .before .before .before .before .before .before .before .before .before .before .before .before .before .before .before .before .before .before .before .before .before .before .loop .inv .1)
+slice-aggregate-say : tie.Need-slice-aggregate-say Inv-loop μ-loop
+slice-aggregate-say c = sym (c .before .before .before .before .before .before .before .before .before .before .before .before .before .before .before .before .before .before .before .before .before .before .before .before .before .before .before .before .before .before .before .before .before .before .before .before .before .before .before .loop .inv .1)
 
-said-of-requires : tie.Need-said-of-requires Inv-loop μ-loop
-said-of-requires c κs = search needs
+slice-aggregate-say-2 : tie.Need-slice-aggregate-say-2 Inv-loop μ-loop
+slice-aggregate-say-2 c = search needs
+
+slice-aggregate-say-3 : tie.Need-slice-aggregate-say-3 Inv-loop μ-loop
+slice-aggregate-say-3 c = search needs
+
+slice-aggregate-say-4 : tie.Need-slice-aggregate-say-4 Inv-loop μ-loop
+slice-aggregate-say-4 c = search needs
+
+say-requires : tie.Need-say-requires Inv-loop μ-loop
+say-requires c κs = search needs
 
 behind-requires : tie.Need-behind-requires Inv-loop μ-loop
 behind-requires c κs = search needs
@@ -152,7 +157,7 @@ loop-again : tie.Need-loop-again Inv-loop μ-loop
 loop-again c =
     let at-answered = c .before .before .before .before .before .before .before .before .before .before .before .before .before .before .before in let at-acted = at-answered .before .before .before .before .before .before .before .before .before .before in let at-prepared = at-acted .before .before .before .before .before .before .before .before .before in let at-laid = at-prepared .before .before .before .before .before in let at-next = at-laid .before .before .before .before .before .before .before .before in let at-loop = at-next .before .before .before .before .before .loop in (
       at-next .next .kept .0 ∙ at-loop .inv .0,
-      c .before .before .before .before .before .before .before .said-of .kept .0 ∙ at-loop .inv .1,
+      c .before .before .before .before .before .before .before .say .kept .0 ∙ at-loop .inv .1,
       at-answered .answered .kept .1 .1 .1 .1 .1 .1 .1 .1 .1 .0 ∙ at-laid .lay .kept .1 .1 .1 .1 .0 ∙ at-loop .inv .2,
       at-acted .acted .kept .1 .1 .1 .1 .1 .0 ∙ at-prepared .prepare-both .kept .0 ∙ at-loop .inv .3,
       at-acted .acted .kept .1 .1 .1 .1 .1 .1 .0 ∙ at-prepared .prepare-both .kept .1 .0 ∙ at-loop .inv .4,
@@ -183,7 +188,6 @@ main-spec =
     next-requires
     returns
     read-requires
-    numbers-of-requires
     slice-aggregate-lay
     lay-requires
     lending-requires
@@ -196,8 +200,11 @@ main-spec =
     array-read-answered
     slice-aggregate-answered
     answered-requires
-    slice-aggregate-said-of
-    said-of-requires
+    slice-aggregate-say
+    slice-aggregate-say-2
+    slice-aggregate-say-3
+    slice-aggregate-say-4
+    say-requires
     behind-requires
     ends-line-requires
     behind-requires-2
