@@ -140,13 +140,15 @@ fn spot_of(change: Change, slot: usize, last: Field) -> Spot
     }
 }
 
-// Feeds a good map, line by line.
+// Feeds a good map, line by line. What the answer leaves of the head is told within the loop: behind it, the table would be copied
+// once more.
 fn feed_lines(m: HeaderMap, block: &mut [u8], store: &mut [u8], piece: &[u8]) -> Fed
     requires { ⌜ Ready m (now block) (now store) ⌝ }
     ensures { λ r. ⌜ Is (fedFrom m (now (block .entry)) (now (store .entry)) (now (piece .entry))) r (now (block .exit)) (now (store .exit)) ⌝ }
 {
     let mut t = m.table;
     let mut h = head_of(m);
+    let mut left = h;
     let mut at = 0;
     let mut answer = Answer::More;
     let mut going = true;
@@ -159,6 +161,7 @@ fn feed_lines(m: HeaderMap, block: &mut [u8], store: &mut [u8], piece: &[u8]) ->
         at = turn.taken;
         answer = turn.answer;
         going = turn.going;
+        left = head_after(answer, h);
         match change {
             Change::Nothing => {}
             Change::Status(p) => {}
@@ -168,8 +171,7 @@ fn feed_lines(m: HeaderMap, block: &mut [u8], store: &mut [u8], piece: &[u8]) ->
             Change::Refused(e) => {}
         }
     }
-    let head = head_after(answer, h);
-    let map = map_under(t, head);
+    let map = map_under(t, left);
     Fed {
         map,
         taken: at,
