@@ -12,7 +12,7 @@ ghost use Rattle.maps.specs.Good.{Ready};
 ghost use Rattle.maps.specs.Maps.{Is};
 ghost use Rattle.maps.specs.Heads.{under};
 ghost use Rattle.maps.specs.declared.Field.{Field};
-ghost use Rattle.line_reader.specs.Turns.{Puts, putIn};
+ghost use Rattle.line_reader.specs.Handling.{Puts, putIn};
 ghost use Rattle.reader.specs.Calls.{fedFrom, finishedFrom, feeding, finishing, clearing, beginning};
 ghost use Rattle.lent.specs.Table.{tableOf, mapIn};
 ghost use Rattle.lent_reader.specs.Lent.{fedIn, madeIn};
@@ -55,13 +55,13 @@ fn feed_lines(h: Head, t: &mut [u32], block: &mut [u8], store: &mut [u8], piece:
     while going {
         let slot = line_reader::last_of(now.fields);
         let last = tables::field_at(t, slot);
-        let turn = line_reader::take_turn(now, last, block, store, piece, at);
-        let change = turn.change;
+        let handled = line_reader::handle_next(now, last, block, store, piece, at);
+        let change = handled.change;
         put_change(t, change);
-        now = turn.head;
-        at = turn.taken;
-        answer = turn.answer;
-        going = turn.going;
+        now = handled.head;
+        at = handled.taken;
+        answer = handled.answer;
+        going = handled.going;
     }
     let head = reader::head_after(answer, now);
     FedHead {
@@ -95,11 +95,11 @@ fn finish_line(h: Head, t: &mut [u32], block: &[u8], store: &mut [u8]) -> FedHea
 {
     let slot = line_reader::last_of(h.fields);
     let last = tables::field_at(t, slot);
-    let turn = line_reader::last_turn(h, last, block, store);
-    let change = turn.change;
+    let handled = line_reader::handle_last(h, last, block, store);
+    let change = handled.change;
     put_change(t, change);
-    let answer = turn.answer;
-    let left = turn.head;
+    let answer = handled.answer;
+    let left = handled.head;
     let head = reader::head_after(answer, left);
     FedHead {
         head,

@@ -63,8 +63,8 @@ shared =
     record {
       last-of = λ κ a r e h. h;
       colon-of = λ κ a r e h. h;
-      take-turn = λ κ a r e h. h;
-      last-turn = λ κ a r e h. h;
+      handle-next = λ κ a r e h. h;
+      handle-last = λ κ a r e h. h;
       empty-head = λ κ a r e h. h;
       head-after = λ κ a r e h. h;
       check-rooms = λ κ a r e h. h;
@@ -251,8 +251,8 @@ asks =
           record {
             last-of = λ κ a. tt;
             colon-of = λ κ a h. h;
-            take-turn = λ κ a h. h;
-            last-turn = λ κ a h. h;
+            handle-next = λ κ a h. h;
+            handle-last = λ κ a h. h;
             empty-head = λ κ a. tt;
             head-after = λ κ a. tt;
             check-rooms = λ κ a. tt;

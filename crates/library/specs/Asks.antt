@@ -12,7 +12,7 @@ use Rattle.maps.specs.Said.{statusAt}
 use Rattle.maps.specs.declared.Checked.the-variants.{Fine}
 use Rattle.folds.specs.Asks.{FoldReady}
 use Rattle.line_reader.specs.Lying.{Lying}
-use Rattle.line_reader.specs.Turns.{Able}
+use Rattle.line_reader.specs.Handling.{Able}
 use Rattle.writes.specs.Written.{pairLine, statusLine}
 use Rattle.lent.specs.Numbers.{soundHead, soundMap}
 use Rattle.library.specs.Says.{Free, Asks, first, second, third, fourth, fifth, sixth, seventh, eighth, ninth, tenth}
@@ -68,8 +68,8 @@ pub record MapsAsk : Type 0 where
 pub record SharedAsk : Type 0 where
   pub last-of : Free Rattle.line_reader.proofs.last_of.Reads.Asked
   pub colon-of : Asks Rattle.line_reader.proofs.colon_of.Reads.Asked (λ κ a. Lying (now (first a)) (second a) (third a) (now (fourth a)) (fifth a))
-  pub take-turn : Asks Rattle.line_reader.proofs.take_turn.Reads.Asked (λ κ a. Able (first a) (second a) (now (third a)) (now (fourth a)) × ((sixth a) ≤ length (now (fifth a))))
-  pub last-turn : Asks Rattle.line_reader.proofs.last_turn.Reads.Asked (λ κ a. Able (first a) (second a) (now (third a)) (now (fourth a)))
+  pub handle-next : Asks Rattle.line_reader.proofs.handle_next.Reads.Asked (λ κ a. Able (first a) (second a) (now (third a)) (now (fourth a)) × ((sixth a) ≤ length (now (fifth a))))
+  pub handle-last : Asks Rattle.line_reader.proofs.handle_last.Reads.Asked (λ κ a. Able (first a) (second a) (now (third a)) (now (fourth a)))
   pub empty-head : Free Rattle.reader.proofs.empty_head.Reads.Asked
   pub head-after : Free Rattle.reader.proofs.head_after.Reads.Asked
   pub check-rooms : Free Rattle.reader.proofs.check_rooms.Reads.Asked

@@ -117,15 +117,15 @@ feeding-on {p} {b} {s} {b₁} {s₁} {b₂} {s₂} {m} {m₁} {m₂} {at} {at₁
           ap (λ (R : Rules). goOn R g₂ (answering m₂ b₂ s₂ a₂) (drop at₂ p)) same;
     }
 
--- the measure of a loop of turns: a turn takes a line, or is the last
+-- the measure of a loop over lines: a turn of it takes one, or is the last
 abbrev pub one : Bool → ℕ
 one true = 1
 one false = 0
 
-pub turn-less : (n at at′ : ℕ) (going going′ : Bool) → going ≡ true → at ≤ at′ → at′ ≤ n → (going′ ≡ true → at < at′) → (n - at′) + one going′ < (n - at) + one going
-turn-less n at at′ false going′ e h k f = absurd (false≢true e)
-turn-less n at at′ true true e h k f = omega (arith, f refl)
-turn-less n at at′ true false e h k f = omega arith
+pub handled-less : (n at at′ : ℕ) (going going′ : Bool) → going ≡ true → at ≤ at′ → at′ ≤ n → (going′ ≡ true → at < at′) → (n - at′) + one going′ < (n - at) + one going
+handled-less n at at′ false going′ e h k f = absurd (false≢true e)
+handled-less n at at′ true true e h k f = omega (arith, f refl)
+handled-less n at at′ true false e h k f = omega arith
 
 pub later : {p b s b′ s′ : List ℕ} {m m′ : HeaderMap} {at at′ : ℕ} → Held p m b s at m′ b′ s′ at′ → at ≤ at′
 later h = omega (arith, h .taken, h .counts)

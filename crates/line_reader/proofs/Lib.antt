@@ -1,6 +1,6 @@
 pub mod Steps
 pub mod FitLaws
 pub mod OctetSteps
-pub mod TurnLaws
+pub mod HandlingLaws
 pub mod HeldLaws
 pub mod LineSteps

@@ -1,4 +1,4 @@
--- What a turn makes of a reading, for each table whose last field it was given. Assumes nothing.
+-- What a line makes of a reading, for each table whose last field it was given. Assumes nothing.
 use mathlib.Core.Path.{_≡_, refl, ap, _∙_}
 use mathlib.Core.Bool.{Bool, true, false, false≢true}
 use mathlib.Core.List.{List, [], _∷_, _++_}
@@ -31,13 +31,13 @@ use Rattle.folds.specs.declared.Change.the-variants.{Nothing, Status as Headed,
 use Rattle.folds.proofs.ListLaws.{take-pasted, drop-pasted, pasted-none}
 use Rattle.line_reader.specs.Reading.{Rules, Gathered, Reading, ruled, lined, closed, fed, finished}
 use Rattle.line_reader.specs.Standing.{rulesOf, answering, readingOf}
-use Rattle.line_reader.specs.Turns.{Able, Puts, putIn, headWith, counted, nextLine, headBy, answerBy, goingBy, stopsAt, rulingAt, handling, closing, turned, tookAt, turning, ending}
+use Rattle.line_reader.specs.Handling.{Able, Puts, putIn, headWith, counted, nextLine, headBy, answerBy, goingBy, stopsAt, rulingAt, handling, closing, handledTook, tookAt, handling, ending}
 use Rattle.line_reader.specs.declared.Answer.{Answer}
 use Rattle.line_reader.specs.declared.Answer.the-variants.{More, Blank, Input, Refused}
-use Rattle.line_reader.specs.declared.Turn.{Turn}
+use Rattle.line_reader.specs.declared.Handled.{Handled}
 use Rattle.line_reader.proofs.FitLaws.{Putting, FineC, ruled-table}
 use Rattle.line_reader.proofs.OctetSteps.{cr-cut, still, onward, by-line, taking-short}
-use Rattle.line_reader.proofs.TurnLaws.{count-long, fine, puts, none-puts, read-more, take-more}
+use Rattle.line_reader.proofs.HandlingLaws.{count-long, fine, puts, none-puts, read-more, take-more}
 use Rattle.line_reader.proofs.HeldLaws.{Held, held-on, goOn, Feeding}
 
 -- what is written within a loan leaves its length
@@ -64,14 +64,14 @@ seated t h k {i} place =
       last = ap (λ (n : ℕ). getD t n noField) place;
     }
 
--- what a turn is to a table t under the head h: a step of the reading, which takes octets if it goes on
-pub record Turned (p : List ℕ) (t : List Field) (h : Head) (b s : List ℕ) (at : ℕ) (r : Turn) (b′ s′ : List ℕ) : Type 0 where
+-- what a line that is handled is to a table t under the head h: a step of the reading, which takes octets if it goes on
+pub record Handles (p : List ℕ) (t : List Field) (h : Head) (b s : List ℕ) (at : ℕ) (r : Handled) (b′ s′ : List ℕ) : Type 0 where
   pub feeds : Feeding p (under t h) b s at (under (putIn t (r .change)) (r .head)) b′ s′ (r .taken) (r .answer) (r .going)
   pub further : r .going ≡ true → at < r .taken
   pub puts : Puts (r .change)
 
 -- and what the end of input is
-pub record Ended (t : List Field) (h : Head) (b s : List ℕ) (r : Turn) (b′ s′ : List ℕ) : Type 0 where
+pub record Ended (t : List Field) (h : Head) (b s : List ℕ) (r : Handled) (b′ s′ : List ℕ) : Type 0 where
   pub held : Held [] (under t h) b s 0 (under (putIn t (r .change)) (r .head)) b′ s′ 0
   pub says : finished (rulesOf (under t h)) (readingOf (under t h) b s) ≡ answering (under (putIn t (r .change)) (r .head)) b′ s′ (r .answer)
   pub puts : Puts (r .change)
@@ -308,11 +308,11 @@ module _ {t : List Field} {h : Head} {x : Field} {b s : List ℕ} (w : Seated t 
         ≡ fed (rulesOf (under t h)) (closed (rulesOf (under t h)) (readingOf (under t after) b′ s)) (drop (at + k) p)
     rest-line = rest-more (Line k) refl v ∙ rw (← more-block (Line k) refl v, drop-drop)
 
-    abbrev LineTurned : Given Turn → Type 0
-    LineTurned g = Turned p t h b s at (g .result) (g .block) (g .store)
+    abbrev LineHandled : Given Handled → Type 0
+    LineHandled g = Handles p t h b s at (g .result) (g .block) (g .store)
 
     line-blank : endsBlock (h .quirks) (drop (h .line) (take (h .count + k) b′)) ≡ true
-        → LineTurned (record { result = stopsAt (nextLine after) (at + k) Blank; block = b′; store = s })
+        → LineHandled (record { result = stopsAt (nextLine after) (at + k) Blank; block = b′; store = s })
     unfolding closed
     line-blank e =
         let n = more-held (Line k) refl v in
@@ -330,7 +330,7 @@ module _ {t : List Field} {h : Head} {x : Field} {b s : List ℕ} (w : Seated t 
           puts = none-puts;
         }
 
-    line-on : endsBlock (h .quirks) (drop (h .line) (take (h .count + k) b′)) ≡ false → LineTurned (handling after x b′ s (at + k) More true)
+    line-on : endsBlock (h .quirks) (drop (h .line) (take (h .count + k) b′)) ≡ false → LineHandled (handling after x b′ s (at + k) More true)
     unfolding closed
     line-on e =
         let n = more-held (Line k) refl v in
@@ -349,14 +349,14 @@ module _ {t : List Field} {h : Head} {x : Field} {b s : List ℕ} (w : Seated t 
           puts = puts (able next);
         }
 
-    line-turned : LineTurned (closing after x b′ s (at + k))
+    line-handled : LineHandled (closing after x b′ s (at + k))
     unfolding closing
-    line-turned = by-if LineTurned _ _ _ line-blank line-on
+    line-handled = by-if LineHandled _ _ _ line-blank line-on
 
 module _ {t : List Field} {h : Head} {x : Field} {b s : List ℕ} (w : Seated t h x b s) (p : List ℕ) (at : ℕ) (read : at ≤ length p) where
-  took-turned : (b′ : List ℕ) (took : Took) → Took-is w p at read b′ (taken took) took
-      → Turned p t h b s at (turned h x b′ s at took .result) (turned h x b′ s at took .block) (turned h x b′ s at took .store)
-  took-turned b′ (Piece k) v =
+  took-handled : (b′ : List ℕ) (took : Took) → Took-is w p at read b′ (taken took) took
+      → Handles p t h b s at (handledTook h x b′ s at took .result) (handledTook h x b′ s at took .block) (handledTook h x b′ s at took .store)
+  took-handled b′ (Piece k) v =
       record {
         feeds =
             record {
@@ -367,7 +367,7 @@ module _ {t : List Field} {h : Head} {x : Field} {b s : List ℕ} (w : Seated t 
         further = λ e. absurd (false≢true e);
         puts = none-puts;
       }
-  took-turned b′ (Limit k) v =
+  took-handled b′ (Limit k) v =
       record {
         feeds =
             record {
@@ -378,7 +378,7 @@ module _ {t : List Field} {h : Head} {x : Field} {b s : List ℕ} (w : Seated t 
         further = λ e. absurd (false≢true e);
         puts = none-puts;
       }
-  took-turned b′ (Line k) v = line-turned w p at read b′ k v
+  took-handled b′ (Line k) v = line-handled w p at read b′ k v
 
   abbrev filled : List ℕ
   filled = pasted b (h .count) (take (taken (tookAt h b p at)) (drop at p))
@@ -388,9 +388,9 @@ module _ {t : List Field} {h : Head} {x : Field} {b s : List ℕ} (w : Seated t 
       let q = taking-short (h .quirks) (crBefore b (h .line) (h .count)) (h .limit - h .count) (drop at p) in
       record { is = refl; within = q .1; fits = q .0; wrote = refl }
 
-  pub turn-is : {r : Turn} {b′ s′ : List ℕ} → Is (turning h x b s p at) r b′ s′ → Turned p t h b s at r b′ s′
-  unfolding turning
-  turn-is i = rw (i .result, i .block, i .store) (took-turned filled (tookAt h b p at) takes)
+  pub handled-is : {r : Handled} {b′ s′ : List ℕ} → Is (handling h x b s p at) r b′ s′ → Handles p t h b s at r b′ s′
+  unfolding handling
+  handled-is i = rw (i .result, i .block, i .store) (took-handled filled (tookAt h b p at) takes)
 
 module _ {t : List Field} {h : Head} {x : Field} {b s : List ℕ} (w : Seated t h x b s) where
   finish-by : ltb (h .line) (h .count) ≡ true → finished (rulesOf (under t h)) (readingOf (under t h) b s)
@@ -402,7 +402,7 @@ module _ {t : List Field} {h : Head} {x : Field} {b s : List ℕ} (w : Seated t 
   unfolding finished
   finish-none e = if-false _ _ refl ∙ if-false _ _ (rw (count-long (able w)) e)
 
-  abbrev Ends : Given Turn → Type 0
+  abbrev Ends : Given Handled → Type 0
   Ends g = Ended t h b s (g .result) (g .block) (g .store)
 
   left-ends : ltb (h .line) (h .count) ≡ true → Ends (handling h x b s 0 Input false)
@@ -416,6 +416,6 @@ module _ {t : List Field} {h : Head} {x : Field} {b s : List ℕ} (w : Seated t 
         puts = none-puts;
       }
 
-  pub end-is : {r : Turn} {b′ s′ : List ℕ} → Is (ending h x b s) r b′ s′ → Ended t h b s r b′ s′
+  pub end-is : {r : Handled} {b′ s′ : List ℕ} → Is (ending h x b s) r b′ s′ → Ended t h b s r b′ s′
   unfolding ending
   end-is i = rw (i .result, i .block, i .store) (by-if Ends _ _ _ left-ends none-ends)

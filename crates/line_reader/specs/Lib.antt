@@ -1,4 +1,4 @@
 pub mod Reading
 pub mod Standing
 pub mod Lying
-pub mod Turns
+pub mod Handling

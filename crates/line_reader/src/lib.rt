@@ -11,7 +11,7 @@ ghost use lib.ListN.{length, take, drop};
 ghost use Rattle.leaves.specs.Octets.{before};
 ghost use Rattle.maps.specs.Maps.{Is};
 ghost use Rattle.line_reader.specs.Lying.{Lying};
-ghost use Rattle.line_reader.specs.Turns.{Able, slotOf, turnOf, turnBy, closing, turning, ending};
+ghost use Rattle.line_reader.specs.Handling.{Able, slotOf, handledOf, handledBy, closing, handling, ending};
 
 // What a piece, or the end of input, did: more is wanted, a blank line or the end of input closed the reading, or a refusal.
 pub enum Answer {
@@ -23,7 +23,7 @@ pub enum Answer {
 
 // What a line did: the head after it, what it changes in the table, how far the piece is taken, the answer, and whether the reading
 // goes on.
-pub struct Turn {
+pub struct Handled {
     pub head: Head,
     pub change: Change,
     pub taken: usize,
@@ -50,10 +50,10 @@ pub fn colon_of(piece: &[u8], from: usize, k: usize, line: &[u8], whole: bool) -
     lines::find_octet(line, 0, 58)
 }
 
-fn turn_of(head: Head, change: Change, taken: usize, answer: Answer, going: bool) -> Turn
-    ensures { λ r. ⌜ r ≡ turnOf head change taken answer going ⌝ }
+fn handled_of(head: Head, change: Change, taken: usize, answer: Answer, going: bool) -> Handled
+    ensures { λ r. ⌜ r ≡ handledOf head change taken answer going ⌝ }
 {
-    Turn {
+    Handled {
         head,
         change,
         taken,
@@ -63,15 +63,15 @@ fn turn_of(head: Head, change: Change, taken: usize, answer: Answer, going: bool
 }
 
 // What a change makes of a head whose line it handles, with the answer if nothing was refused.
-fn turn_by(h: Head, change: Change, taken: usize, answer: Answer, going: bool) -> Turn
+fn handled_by(h: Head, change: Change, taken: usize, answer: Answer, going: bool) -> Handled
     requires { ⌜ slotOf change < 256 ⌝ }
-    ensures { λ r. ⌜ r ≡ turnBy h change taken answer going ⌝ }
+    ensures { λ r. ⌜ r ≡ handledBy h change taken answer going ⌝ }
 {
     let line = h.count;
     match change {
         Change::Nothing => {
             let head = Head { line, ..h };
-            turn_of(head, change, taken, answer, going)
+            handled_of(head, change, taken, answer, going)
         }
         Change::Status(p) => {
             let head = Head {
@@ -80,7 +80,7 @@ fn turn_by(h: Head, change: Change, taken: usize, answer: Answer, going: bool) -
                 awaits: false,
                 ..h
             };
-            turn_of(head, change, taken, answer, going)
+            handled_of(head, change, taken, answer, going)
         }
         Change::Put(slot, x, to) => {
             let head = Head {
@@ -89,9 +89,9 @@ fn turn_by(h: Head, change: Change, taken: usize, answer: Answer, going: bool) -
                 fields: slot + 1,
                 ..h
             };
-            turn_of(head, change, taken, answer, going)
+            handled_of(head, change, taken, answer, going)
         }
-        Change::Refused(e) => turn_of(h, change, taken, Answer::Refused(e), false),
+        Change::Refused(e) => handled_of(h, change, taken, Answer::Refused(e), false),
     }
 }
 
@@ -105,7 +105,7 @@ fn close_line(
     from: usize,
     k: usize,
     whole: bool,
-) -> Turn
+) -> Handled
     requires { ⌜ Able h last (now block) (now store) × Lying (now piece) from k (take (h .count - h .line) (drop (h .line) (now block))) whole ⌝ }
     ensures { λ r. ⌜ Is (closing h last (now (block .entry)) (now (store .entry)) (from + k)) r (now (block .entry)) (now (store .exit)) ⌝ }
 {
@@ -115,7 +115,7 @@ fn close_line(
     let line = &block[start..count];
     if folds::ends_block(line, h.quirks) {
         let head = Head { line: count, ..h };
-        return turn_of(head, Change::Nothing, taken, Answer::Blank, false);
+        return handled_of(head, Change::Nothing, taken, Answer::Blank, false);
     }
     let c = colon_of(piece, from, k, line, whole);
     let change = folds::line_change(
@@ -130,20 +130,20 @@ fn close_line(
         h.room,
         h.mark,
     );
-    turn_by(h, change, taken, Answer::More, true)
+    handled_by(h, change, taken, Answer::More, true)
 }
 
 // Takes a line out of a piece from a place on: what it makes of a reading that stands at a head, whose last field is given.
-pub fn take_turn(
+pub fn handle_next(
     h: Head,
     last: Field,
     block: &mut [u8],
     store: &mut [u8],
     piece: &[u8],
     at: usize,
-) -> Turn
+) -> Handled
     requires { ⌜ Able h last (now block) (now store) × (at ≤ length (now piece)) ⌝ }
-    ensures { λ r. ⌜ Is (turning h last (now (block .entry)) (now (store .entry)) (now (piece .entry)) at) r (now (block .exit)) (now (store .exit)) ⌝ }
+    ensures { λ r. ⌜ Is (handling h last (now (block .entry)) (now (store .entry)) (now (piece .entry)) at) r (now (block .exit)) (now (store .exit)) ⌝ }
 {
     let count = h.count;
     let took = lines::take_line(piece, at, block, count, h.limit, h.line, h.quirks);
@@ -153,7 +153,7 @@ pub fn take_turn(
                 count: count + k,
                 ..h
             };
-            turn_of(head, Change::Nothing, at + k, Answer::More, false)
+            handled_of(head, Change::Nothing, at + k, Answer::More, false)
         }
         Took::Full(k) => {
             let head = Head {
@@ -161,7 +161,7 @@ pub fn take_turn(
                 ..h
             };
             let answer = Answer::Refused(Refusal::BlockFull);
-            turn_of(head, Change::Nothing, at + k, answer, false)
+            handled_of(head, Change::Nothing, at + k, answer, false)
         }
         Took::Line(k) => {
             let head = Head {
@@ -174,7 +174,7 @@ pub fn take_turn(
 }
 
 // Handles the leftover line of a reading that stands at a head, if there is one.
-pub fn last_turn(h: Head, last: Field, block: &[u8], store: &mut [u8]) -> Turn
+pub fn handle_last(h: Head, last: Field, block: &[u8], store: &mut [u8]) -> Handled
     requires { ⌜ Able h last (now block) (now store) ⌝ }
     ensures { λ r. ⌜ Is (ending h last (now (block .entry)) (now (store .entry))) r (now (block .entry)) (now (store .exit)) ⌝ }
 {
@@ -192,7 +192,7 @@ pub fn last_turn(h: Head, last: Field, block: &[u8], store: &mut [u8]) -> Turn
             h.room,
             h.mark,
         );
-        return turn_by(h, change, 0, Answer::Input, false);
+        return handled_by(h, change, 0, Answer::Input, false);
     }
-    turn_of(h, Change::Nothing, 0, Answer::Input, false)
+    handled_of(h, Change::Nothing, 0, Answer::Input, false)
 }

@@ -17,12 +17,12 @@ use Rattle.folds.specs.declared.Change.{Change}
 use Rattle.folds.specs.declared.Change.the-variants.{Nothing, Status as Headed, Put, Refused as Stops}
 use Rattle.folds.proofs.ListLaws.{laid}
 use Rattle.line_reader.specs.Standing.{rulesOf, answering}
-use Rattle.line_reader.specs.Turns.{Puts, slotOf, putIn, turning}
+use Rattle.line_reader.specs.Handling.{Puts, slotOf, putIn, handling}
 use Rattle.line_reader.specs.declared.Answer.{Answer}
 use Rattle.line_reader.specs.declared.Answer.the-variants.{More, Blank, Input, Refused}
-use Rattle.line_reader.specs.declared.Turn.{Turn}
-use Rattle.line_reader.proofs.HeldLaws.{Frame, frameOf, Held, held-start, goOn, Feeding, feeding-on, later, one, turn-less}
-use Rattle.line_reader.proofs.LineSteps.{Seated, seated, Turned, turn-is, Ended}
+use Rattle.line_reader.specs.declared.Handled.{Handled}
+use Rattle.line_reader.proofs.HeldLaws.{Frame, frameOf, Held, held-start, goOn, Feeding, feeding-on, later, one, handled-less}
+use Rattle.line_reader.proofs.LineSteps.{Seated, seated, Handles, handled-is, Ended}
 use Rattle.reader.specs.Calls.{gives, fedFrom, finishedFrom}
 use Rattle.reader.specs.Heads.{headAfter, spotOf}
 use Rattle.reader.specs.declared.Fed.{Fed}
@@ -50,18 +50,18 @@ module _ (t : List Field) (c : Change) {i n : ℕ} (place : i ≡ n - 1) (few : 
 
 -- a turn of the loop, by the change that it made
 module _ {p b₀ s₀ b s : List ℕ} {m : HeaderMap} {at : ℕ} {a : Answer} {going : Bool} (t : List Field) (h : Head) (inv : Feeding p m b₀ s₀ 0 (under t h) b s at a going)
-    (go : going ≡ true) {i : ℕ} (place : i ≡ h .fields - 1) {r : Turn} {b′ s′ : List ℕ} (w : Is (turning h (getD t i noField) b s p at) r b′ s′) where
-  turned : Turned p t h b s at r b′ s′
-  turned = turn-is (seated t h (inv .held) place) p at (inv .held .read) w
+    (go : going ≡ true) {i : ℕ} (place : i ≡ h .fields - 1) {r : Handled} {b′ s′ : List ℕ} (w : Is (handling h (getD t i noField) b s p at) r b′ s′) where
+  handledTook : Handles p t h b s at r b′ s′
+  handledTook = handled-is (seated t h (inv .held) place) p at (inv .held .read) w
 
-  pub turn-nears : (length p - r .taken) + one (r .going) < (length p - at) + one going
-  turn-nears = turn-less (length p) at (r .taken) going (r .going) go (later (turned .feeds .held)) (turned .feeds .held .read) (turned .further)
+  pub handled-nears : (length p - r .taken) + one (r .going) < (length p - at) + one going
+  handled-nears = handled-less (length p) at (r .taken) going (r .going) go (later (handledTook .feeds .held)) (handledTook .feeds .held .read) (handledTook .further)
 
-  pub turn-on : {c : Change} → r .change ≡ c → Feeding p m b₀ s₀ 0 (under (putIn t c) (r .head)) b′ s′ (r .taken) (r .answer) (r .going)
-  turn-on e = subst (λ (c : Change). Feeding p m b₀ s₀ 0 (under (putIn t c) (r .head)) b′ s′ (r .taken) (r .answer) (r .going)) e (feeding-on inv go (turned .feeds))
+  pub handled-on : {c : Change} → r .change ≡ c → Feeding p m b₀ s₀ 0 (under (putIn t c) (r .head)) b′ s′ (r .taken) (r .answer) (r .going)
+  handled-on e = subst (λ (c : Change). Feeding p m b₀ s₀ 0 (under (putIn t c) (r .head)) b′ s′ (r .taken) (r .answer) (r .going)) e (feeding-on inv go (handledTook .feeds))
 
-  pub turn-puts : {c : Change} → r .change ≡ c → Puts c
-  turn-puts e = subst Puts e (turned .puts)
+  pub handled-puts : {c : Change} → r .change ≡ c → Puts c
+  handled-puts e = subst Puts e (handledTook .puts)
 
 abbrev framed : Frame → Head → Head
 framed f h =
@@ -122,7 +122,7 @@ module _ (m : HeaderMap) {h : Head} (e : h ≡ headOf m) {b s : List ℕ} where
   pub finish-seated : Ready m b s → length (m .table) ≡ 256 → {i : ℕ} → i ≡ h .fields - 1 → Seated (m .table) h (getD (m .table) i noField) b s
   finish-seated r w place = rw e (seated (m .table) (headOf m) (held-start [] r w) (rw e at place))
 
-  pub finish-end : {s′ : List ℕ} {r : Turn} → Ended (m .table) h b s r b s′
+  pub finish-end : {s′ : List ℕ} {r : Handled} → Ended (m .table) h b s r b s′
       → Is (finishedFrom m b s) (endsAs (putIn (m .table) (r .change)) (r .head) 0 (r .answer)) b s′
   unfolding finishedFrom
   finish-end {s′} {r} w = let v = rw e at w in rw (v .says) (is-after _ (r .head) (v .held) (r .answer))

@@ -155,12 +155,12 @@ fn feed_lines(m: HeaderMap, block: &mut [u8], store: &mut [u8], piece: &[u8]) ->
     while going {
         let slot = line_reader::last_of(h.fields);
         let last = t[slot];
-        let turn = line_reader::take_turn(h, last, block, store, piece, at);
-        let change = turn.change;
-        h = turn.head;
-        at = turn.taken;
-        answer = turn.answer;
-        going = turn.going;
+        let handled = line_reader::handle_next(h, last, block, store, piece, at);
+        let change = handled.change;
+        h = handled.head;
+        at = handled.taken;
+        answer = handled.answer;
+        going = handled.going;
         left = head_after(answer, h);
         match change {
             Change::Nothing => {}
@@ -204,14 +204,14 @@ fn finish_line(m: HeaderMap, block: &[u8], store: &mut [u8]) -> Fed
     let h = head_of(m);
     let slot = line_reader::last_of(h.fields);
     let last = t[slot];
-    let turn = line_reader::last_turn(h, last, block, store);
-    let change = turn.change;
+    let handled = line_reader::handle_last(h, last, block, store);
+    let change = handled.change;
     let spot = spot_of(change, slot, last);
     let place = spot.slot;
     let field = spot.field;
     t[place] = field;
-    let answer = turn.answer;
-    let left = turn.head;
+    let answer = handled.answer;
+    let left = handled.head;
     let head = head_after(answer, left);
     let map = map_under(t, head);
     Fed {

@@ -4,8 +4,8 @@ use native.Mathlib.Omega.{arith}
 use mathlib.Core.Path.{_≡_, sym, _∙_}
 use Prim.Native.Nat.{_+_, _-_}
 use lib.ListN.{length}
-use Rattle.line_reader.proofs.HeldLaws.{Feeding, feeding-start, feeding-on, later, one, turn-less}
-use Rattle.line_reader.proofs.LineSteps.{able, turn-is}
+use Rattle.line_reader.proofs.HeldLaws.{Feeding, feeding-start, feeding-on, later, one, handled-less}
+use Rattle.line_reader.proofs.LineSteps.{able, handled-is}
 use Rattle.reader.proofs.EndLaws.{feed-end}
 use Rattle.lent.specs.Table.{tableOf, mapIn}
 use Rattle.lent.proofs.LentLaws.{fields-length}
@@ -31,27 +31,27 @@ field-at-requires c κs =
     let l = c .before .before .before .loop in
     (omega (arith, c .before .last-of .ensures, l .inv .1 .held .facts .few), l .inv .0)
 
-take-turn-requires : tie.Need-take-turn-requires Inv-loop μ-loop
-take-turn-requires c κs =
+handle-next-requires : tie.Need-handle-next-requires Inv-loop μ-loop
+handle-next-requires c κs =
     let l = c .before .before .before .before .before .before .loop in
     (able (seated-in (l .t) (l .now) (l .inv .1 .held) (c .before .before .before .before .last-of .ensures) (c .before .before .field-at .ensures)), l .inv .1 .held .read)
 
 put-change-requires : tie.Need-put-change-requires Inv-loop μ-loop
 put-change-requires c κs =
     let l = c .before .before .before .before .before .before .before .before .before .before .before .before .loop in
-    let v = turn-is (seated-in (l .t) (l .now) (l .inv .1 .held) (c .before .before .before .before .before .before .before .before .before .before .last-of .ensures) (c .before .before .before .before .before .before .before .before .field-at .ensures)) _ (l .at) (l .inv .1 .held .read) (c .before .before .before .before .before .take-turn .ensures) in
+    let v = handled-is (seated-in (l .t) (l .now) (l .inv .1 .held) (c .before .before .before .before .before .before .before .before .before .before .last-of .ensures) (c .before .before .before .before .before .before .before .before .field-at .ensures)) _ (l .at) (l .inv .1 .held .read) (c .before .before .before .before .before .handle-next .ensures) in
     (l .inv .0, v .puts)
 
 loop-less : tie.Need-loop-less Inv-loop μ-loop
 loop-less c =
     let l = c .before .before .before .before .before .before .before .before .before .before .before .before .before .before .before .before .loop in
-    let v = turn-is (seated-in (l .t) (l .now) (l .inv .1 .held) (c .before .before .before .before .before .before .before .before .before .before .before .before .before .before .last-of .ensures) (c .before .before .before .before .before .before .before .before .before .before .before .before .field-at .ensures)) _ (l .at) (l .inv .1 .held .read) (c .before .before .before .before .before .before .before .before .before .take-turn .ensures) in
-    turn-less _ (l .at) _ _ _ (c .before .before .before .before .before .before .before .before .before .before .before .before .before .before .before .loop-test .taken) (later (v .feeds .held)) (v .feeds .held .read) (v .further)
+    let v = handled-is (seated-in (l .t) (l .now) (l .inv .1 .held) (c .before .before .before .before .before .before .before .before .before .before .before .before .before .before .last-of .ensures) (c .before .before .before .before .before .before .before .before .before .before .before .before .field-at .ensures)) _ (l .at) (l .inv .1 .held .read) (c .before .before .before .before .before .before .before .before .before .handle-next .ensures) in
+    handled-less _ (l .at) _ _ _ (c .before .before .before .before .before .before .before .before .before .before .before .before .before .before .before .loop-test .taken) (later (v .feeds .held)) (v .feeds .held .read) (v .further)
 
 loop-again : tie.Need-loop-again Inv-loop μ-loop
 loop-again c =
     let l = c .before .before .before .before .before .before .before .before .before .before .before .before .before .before .before .before .loop in
-    let v = turn-is (seated-in (l .t) (l .now) (l .inv .1 .held) (c .before .before .before .before .before .before .before .before .before .before .before .before .before .before .last-of .ensures) (c .before .before .before .before .before .before .before .before .before .before .before .before .field-at .ensures)) _ (l .at) (l .inv .1 .held .read) (c .before .before .before .before .before .before .before .before .before .take-turn .ensures) in
+    let v = handled-is (seated-in (l .t) (l .now) (l .inv .1 .held) (c .before .before .before .before .before .before .before .before .before .before .before .before .before .before .last-of .ensures) (c .before .before .before .before .before .before .before .before .before .before .before .before .field-at .ensures)) _ (l .at) (l .inv .1 .held .read) (c .before .before .before .before .before .before .before .before .before .handle-next .ensures) in
     (c .before .before .before .put-change .kept .0 ∙ l .inv .0, rw (c .before .before .before .put-change .ensures) (feeding-on (l .inv .1) (c .before .before .before .before .before .before .before .before .before .before .before .before .before .before .before .loop-test .taken) (v .feeds)))
 
 head-after-requires : tie.Need-head-after-requires Inv-loop μ-loop
@@ -80,7 +80,7 @@ feed-lines-spec =
     loop-holds
     last-of-requires
     field-at-requires
-    take-turn-requires
+    handle-next-requires
     put-change-requires
     loop-less
     loop-again

@@ -17,8 +17,8 @@ last-of-requires c κs = search needs
 field-at-requires : tie.Need-field-at-requires
 field-at-requires c κs = search needs
 
-last-turn-requires : tie.Need-last-turn-requires
-last-turn-requires c κs =
+handle-last-requires : tie.Need-handle-last-requires
+handle-last-requires c κs =
     let z = c .before .before .before .before .before .before .before in
     let w = seated-in (z .args .t .now) (z .args .h) (held-start [] (z .pre .1) (fields-length (z .args .t .now) 0 256)) (c .before .before .before .last-of .ensures) (c .before .field-at .ensures) in
     able w
@@ -27,7 +27,7 @@ put-change-requires : tie.Need-put-change-requires
 put-change-requires c κs =
     let z = c .before .before .before .before .before .before .before .before .before .before .before in
     let w = seated-in (z .args .t .now) (z .args .h) (held-start [] (z .pre .1) (fields-length (z .args .t .now) 0 256)) (c .before .before .before .before .before .before .before .last-of .ensures) (c .before .before .before .before .before .field-at .ensures) in
-    (z .pre .0, end-is w (c .before .before .before .last-turn .ensures) .puts)
+    (z .pre .0, end-is w (c .before .before .before .handle-last .ensures) .puts)
 
 head-after-requires : tie.Need-head-after-requires
 head-after-requires c κs = search needs
@@ -42,7 +42,7 @@ returns : tie.Need-returns
 returns c =
     let z = c .before .before .before .before .before .before .before .before .before .before .before .before .before .before .before .before in
     let w = seated-in (z .args .t .now) (z .args .h) (held-start [] (z .pre .1) (fields-length (z .args .t .now) 0 256)) (c .before .before .before .before .before .before .before .before .before .before .before .before .last-of .ensures) (c .before .before .before .before .before .before .before .before .before .before .field-at .ensures) in
-    rw (c .head-after .ensures, c .before .before .before .before .put-change .ensures) (finish-end (mapIn (z .args .t .now) (z .args .h)) refl (end-is w (c .before .before .before .before .before .before .before .before .last-turn .ensures)))
+    rw (c .head-after .ensures, c .before .before .before .before .put-change .ensures) (finish-end (mapIn (z .args .t .now) (z .args .h)) refl (end-is w (c .before .before .before .before .before .before .before .before .handle-last .ensures)))
 
 pub finish-line-spec : {M : Type 1} → statement M
 finish-line-spec =
@@ -50,7 +50,7 @@ finish-line-spec =
     (tie.spec
     last-of-requires
     field-at-requires
-    last-turn-requires
+    handle-last-requires
     put-change-requires
     head-after-requires
     same-length

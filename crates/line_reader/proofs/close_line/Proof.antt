@@ -2,7 +2,7 @@
 use borrow.Author.Needs.{needs}
 use mathlib.Core.Path.{refl, sym, ap, _∙_}
 use Rattle.leaves.specs.Octets.{before}
-use Rattle.line_reader.proofs.TurnLaws.{fold-ready, slot-few, is-handled, line-cut, closing-blank, closing-on}
+use Rattle.line_reader.proofs.HandlingLaws.{fold-ready, slot-few, is-handled, line-cut, closing-blank, closing-on}
 use Rattle.line_reader.proofs.close_line.Statement.{statement}
 use Rattle.line_reader.proofs.close_line.Tie as tie
 
@@ -21,13 +21,13 @@ part-line-end c = search needs
 ends-block-requires : tie.Need-ends-block-requires
 ends-block-requires c κs = search needs
 
-turn-of-requires : tie.Need-turn-of-requires
-turn-of-requires c κs = search needs
+handled-of-requires : tie.Need-handled-of-requires
+handled-of-requires c κs = search needs
 
 returns : tie.Need-returns
 returns c =
     rw (closing-blank (c .before .before .before .before .before .before .before .pre .0) _ (sym (c .before .before .ends-block .ensures) ∙ c .before .if1 .taken))
-    (record { result = c .turn-of .ensures; block = refl; store = refl })
+    (record { result = c .handled-of .ensures; block = refl; store = refl })
 
 colon-of-requires : tie.Need-colon-of-requires
 colon-of-requires c κs = search needs
@@ -37,8 +37,8 @@ line-change-requires c κs =
     let able = c .before .before .before .before .before .before .before .before .pre .0 in
     (fold-ready able, c .before .colon-of .ensures ∙ ap (before 58) (sym (line-cut able)))
 
-turn-by-requires : tie.Need-turn-by-requires
-turn-by-requires c κs = slot-few (c .before .before .before .before .before .before .before .before .before .before .before .pre .0) _ (c .before .before .line-change .ensures .is)
+handled-by-requires : tie.Need-handled-by-requires
+handled-by-requires c κs = slot-few (c .before .before .before .before .before .before .before .before .before .before .before .pre .0) _ (c .before .before .line-change .ensures .is)
 
 same-length : tie.Need-same-length
 same-length c = search needs
@@ -47,7 +47,7 @@ returns-2 : tie.Need-returns-2
 returns-2 c =
     let able = c .before .before .before .before .before .before .before .before .before .before .before .before .pre .0 in
     rw (closing-on able _ (sym (c .before .before .before .before .before .before .before .ends-block .ensures) ∙ c .before .before .before .before .before .before .if1 .left))
-    (is-handled able _ _ _ (c .before .before .before .line-change .ensures) (c .turn-by .ensures))
+    (is-handled able _ _ _ (c .before .before .before .line-change .ensures) (c .handled-by .ensures))
 
 pub close-line-spec : {M : Type 1} → statement M
 close-line-spec =
@@ -58,10 +58,10 @@ close-line-spec =
     part-line-start
     part-line-end
     ends-block-requires
-    turn-of-requires
+    handled-of-requires
     returns
     colon-of-requires
     line-change-requires
-    turn-by-requires
+    handled-by-requires
     same-length
     returns-2)

@@ -1,4 +1,4 @@
--- What the code of a turn needs, and what its arms give. Assumes nothing.
+-- What the code that handles a line needs, and what its arms give. Assumes nothing.
 use mathlib.Core.Path.{_≡_, refl, sym, ap, _∙_}
 use mathlib.Core.Bool.{Bool, true, false}
 use mathlib.Core.List.{List, _++_}
@@ -24,10 +24,10 @@ use Rattle.folds.specs.declared.Change.{Change}
 use Rattle.folds.specs.declared.Change.the-variants.{Nothing, Status as Headed, Put, Refused as Stops}
 use Rattle.folds.proofs.ListLaws.{take-pasted}
 use Rattle.line_reader.specs.Lying.{Lying}
-use Rattle.line_reader.specs.Turns.{Able, Puts, slotOf, counted, nextLine, turnBy, stopsAt, rulingAt, handling, closing, turned, turning, ending}
+use Rattle.line_reader.specs.Handling.{Able, Puts, slotOf, counted, nextLine, handledBy, stopsAt, rulingAt, handling, closing, handledTook, handling, ending}
 use Rattle.line_reader.specs.declared.Answer.{Answer}
 use Rattle.line_reader.specs.declared.Answer.the-variants.{More, Blank, Input}
-use Rattle.line_reader.specs.declared.Turn.{Turn}
+use Rattle.line_reader.specs.declared.Handled.{Handled}
 use Rattle.line_reader.proofs.FitLaws.{FineC, rule4-fine}
 
 none-fits : Fit 65536 65536 noField
@@ -72,10 +72,10 @@ module _ {h : Head} {last : Field} {b s : List ℕ} (able : Able h last b s) whe
   slot-few c e = rw e (puts .slot)
 
   -- a line that rule 4 handled
-  pub is-handled : {s′ : List ℕ} {c : Change} {r : Turn} (taken : ℕ) (a : Answer) (going : Bool)
-      → Changes (rulingAt h last b s) s (h .mark) s′ c → r ≡ turnBy h c taken a going → Is (handling h last b s taken a going) r b s′
+  pub is-handled : {s′ : List ℕ} {c : Change} {r : Handled} (taken : ℕ) (a : Answer) (going : Bool)
+      → Changes (rulingAt h last b s) s (h .mark) s′ c → r ≡ handledBy h c taken a going → Is (handling h last b s taken a going) r b s′
   is-handled {s′} {c} {r} taken a going w e =
-      record { result = e ∙ ap (λ (c : Change). turnBy h c taken a going) (w .is); block = refl; store = w .wrote }
+      record { result = e ∙ ap (λ (c : Change). handledBy h c taken a going) (w .is); block = refl; store = w .wrote }
 
   -- the line, as the code cuts it out and as rule 4 does
   pub line-cut : drop (h .line) (take (h .count) b) ≡ take (h .count - h .line) (drop (h .line) b)
@@ -101,9 +101,9 @@ module _ {h : Head} {last : Field} {b s : List ℕ} (able : Able h last b s) whe
 
   -- what take_line took
   module _ (p : List ℕ) (at : ℕ) {b′ : List ℕ} {took : Took} (w : Takes (h .quirks) (crBefore b (h .line) (h .count)) (h .limit - h .count) (h .count) (drop at p) b b′ took) where
-    pub turning-by : turning h last b s p at ≡ turned h last b′ s at took
-    unfolding turning
-    turning-by = sym (rw (w .wrote, w .is))
+    pub handling-by : handling h last b s p at ≡ handledTook h last b′ s at took
+    unfolding handling
+    handling-by = sym (rw (w .wrote, w .is))
 
     pub more-able : length b′ ≡ length b → Able (counted h (taken took)) last b′ s
     more-able e =

@@ -22,9 +22,9 @@ use Rattle.folds.specs.declared.Change.{Change}
 use Rattle.folds.specs.declared.Change.the-variants.{Nothing, Status as Headed, Put, Refused as Stops}
 use Rattle.line_reader.specs.declared.Answer.{Answer}
 use Rattle.line_reader.specs.declared.Answer.the-variants.{More, Blank, Input, Refused}
-use Rattle.line_reader.specs.declared.Turn.{Turn}
+use Rattle.line_reader.specs.declared.Handled.{Handled}
 
--- what a turn asks: the counts keep within the rooms, the rooms within the loans, and the last field, if there is one, within the counts
+-- what handling a line asks: the counts keep within the rooms, the rooms within the loans, and the last field, if there is one, within the counts
 pub record Able (h : Head) (last : Field) (b s : List ℕ) : Type 0 where
   pub small : h .limit ≤ 65536
   pub most : h .room ≤ 65536
@@ -106,48 +106,48 @@ goingBy going (Headed p) = going
 goingBy going (Put slot x mark) = going
 goingBy going (Stops e) = false
 
-abbrev pub turnOf : Head → Change → ℕ → Answer → Bool → Turn
-turnOf h c taken a going = record { head = h; change = c; taken = taken; answer = a; going = going }
+abbrev pub handledOf : Head → Change → ℕ → Answer → Bool → Handled
+handledOf h c taken a going = record { head = h; change = c; taken = taken; answer = a; going = going }
 
 -- a line's change, with the answer and the way on if nothing was refused
-abbrev pub turnBy : Head → Change → ℕ → Answer → Bool → Turn
-turnBy h c taken a going = turnOf (headBy h c) c taken (answerBy a c) (goingBy going c)
+abbrev pub handledBy : Head → Change → ℕ → Answer → Bool → Handled
+handledBy h c taken a going = handledOf (headBy h c) c taken (answerBy a c) (goingBy going c)
 
 -- the reading stops
-abbrev pub stopsAt : Head → ℕ → Answer → Turn
-stopsAt h taken a = turnOf h Nothing taken a false
+abbrev pub stopsAt : Head → ℕ → Answer → Handled
+stopsAt h taken a = handledOf h Nothing taken a false
 
 -- what rule 4 says of the line that ends at a head's count
 abbrev pub rulingAt : Head → Field → List ℕ → List ℕ → Ruling
 rulingAt h last b s = rule4 (h .room) (take (h .count) b) (h .line) (h .awaits) (h .fields) last (h .mark) (take (h .mark) s)
 
-abbrev pub handling : Head → Field → List ℕ → List ℕ → ℕ → Answer → Bool → Given Turn
+abbrev pub handling : Head → Field → List ℕ → List ℕ → ℕ → Answer → Bool → Given Handled
 handling h last b s taken a going =
-    record { result = turnBy h (rulingAt h last b s .change) taken a going; block = b; store = pasted s (h .mark) (rulingAt h last b s .new) }
+    record { result = handledBy h (rulingAt h last b s .change) taken a going; block = b; store = pasted s (h .mark) (rulingAt h last b s .new) }
 
 -- a line that has ended ends the block, or is handled by rule 4
-unfoldable pub closing : Head → Field → List ℕ → List ℕ → ℕ → Given Turn
+unfoldable pub closing : Head → Field → List ℕ → List ℕ → ℕ → Given Handled
 closing h last b s taken =
     if endsBlock (h .quirks) (drop (h .line) (take (h .count) b))
     then record { result = stopsAt (nextLine h) taken Blank; block = b; store = s }
     else handling h last b s taken More true
 
 -- what was taken, which is in the block
-abbrev pub turned : Head → Field → List ℕ → List ℕ → ℕ → Took → Given Turn
-turned h last b s at (Piece k) = record { result = stopsAt (counted h k) (at + k) More; block = b; store = s }
-turned h last b s at (Limit k) = record { result = stopsAt (counted h k) (at + k) (Refused (refusal 4)); block = b; store = s }
-turned h last b s at (Line k) = closing (counted h k) last b s (at + k)
+abbrev pub handledTook : Head → Field → List ℕ → List ℕ → ℕ → Took → Given Handled
+handledTook h last b s at (Piece k) = record { result = stopsAt (counted h k) (at + k) More; block = b; store = s }
+handledTook h last b s at (Limit k) = record { result = stopsAt (counted h k) (at + k) (Refused (refusal 4)); block = b; store = s }
+handledTook h last b s at (Line k) = closing (counted h k) last b s (at + k)
 
 -- octets of a piece from a place on, until a line ends, the piece does, or the count is the limit
 abbrev pub tookAt : Head → List ℕ → List ℕ → ℕ → Took
 tookAt h b p at = taking (h .quirks) (crBefore b (h .line) (h .count)) (h .limit - h .count) (drop at p)
 
 -- one line of a piece, rules 1 to 4
-unfoldable pub turning : Head → Field → List ℕ → List ℕ → List ℕ → ℕ → Given Turn
-turning h last b s p at = turned h last (pasted b (h .count) (take (taken (tookAt h b p at)) (drop at p))) s at (tookAt h b p at)
+unfoldable pub handling : Head → Field → List ℕ → List ℕ → List ℕ → ℕ → Given Handled
+handling h last b s p at = handledTook h last (pasted b (h .count) (take (taken (tookAt h b p at)) (drop at p))) s at (tookAt h b p at)
 
 -- the leftover line, rule 5
-unfoldable pub ending : Head → Field → List ℕ → List ℕ → Given Turn
+unfoldable pub ending : Head → Field → List ℕ → List ℕ → Given Handled
 ending h last b s =
     if ltb (h .line) (h .count) then handling h last b s 0 Input false
     else record { result = stopsAt h 0 Input; block = b; store = s }
