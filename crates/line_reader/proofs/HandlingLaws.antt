@@ -24,7 +24,7 @@ use Rattle.folds.specs.declared.Change.{Change}
 use Rattle.folds.specs.declared.Change.the-variants.{Nothing, Status as Headed, Put, Refused as Stops}
 use Rattle.folds.proofs.ListLaws.{take-pasted}
 use Rattle.line_reader.specs.Lying.{Lying}
-use Rattle.line_reader.specs.Handling.{Able, Puts, slotOf, counted, nextLine, handledBy, stopsAt, rulingAt, handling, closing, handledTook, handling, ending}
+use Rattle.line_reader.specs.Handling.{Able, Puts, slotOf, counted, nextLine, handledBy, stopsAt, rulingAt, handling, closing, handledTook, nextHandled, ending}
 use Rattle.line_reader.specs.declared.Answer.{Answer}
 use Rattle.line_reader.specs.declared.Answer.the-variants.{More, Blank, Input}
 use Rattle.line_reader.specs.declared.Handled.{Handled}
@@ -101,9 +101,9 @@ module _ {h : Head} {last : Field} {b s : List ℕ} (able : Able h last b s) whe
 
   -- what take_line took
   module _ (p : List ℕ) (at : ℕ) {b′ : List ℕ} {took : Took} (w : Takes (h .quirks) (crBefore b (h .line) (h .count)) (h .limit - h .count) (h .count) (drop at p) b b′ took) where
-    pub handling-by : handling h last b s p at ≡ handledTook h last b′ s at took
-    unfolding handling
-    handling-by = sym (rw (w .wrote, w .is))
+    pub nextHandled-by : nextHandled h last b s p at ≡ handledTook h last b′ s at took
+    unfolding nextHandled
+    nextHandled-by = sym (rw (w .wrote, w .is))
 
     pub more-able : length b′ ≡ length b → Able (counted h (taken took)) last b′ s
     more-able e =

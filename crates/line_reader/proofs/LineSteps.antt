@@ -31,7 +31,7 @@ use Rattle.folds.specs.declared.Change.the-variants.{Nothing, Status as Headed,
 use Rattle.folds.proofs.ListLaws.{take-pasted, drop-pasted, pasted-none}
 use Rattle.line_reader.specs.Reading.{Rules, Gathered, Reading, ruled, lined, closed, fed, finished}
 use Rattle.line_reader.specs.Standing.{rulesOf, answering, readingOf}
-use Rattle.line_reader.specs.Handling.{Able, Puts, putIn, headWith, counted, nextLine, headBy, answerBy, goingBy, stopsAt, rulingAt, handling, closing, handledTook, tookAt, handling, ending}
+use Rattle.line_reader.specs.Handling.{Able, Puts, putIn, headWith, counted, nextLine, headBy, answerBy, goingBy, stopsAt, rulingAt, handling, closing, handledTook, tookAt, nextHandled, ending}
 use Rattle.line_reader.specs.declared.Answer.{Answer}
 use Rattle.line_reader.specs.declared.Answer.the-variants.{More, Blank, Input, Refused}
 use Rattle.line_reader.specs.declared.Handled.{Handled}
@@ -388,8 +388,8 @@ module _ {t : List Field} {h : Head} {x : Field} {b s : List ℕ} (w : Seated t 
       let q = taking-short (h .quirks) (crBefore b (h .line) (h .count)) (h .limit - h .count) (drop at p) in
       record { is = refl; within = q .1; fits = q .0; wrote = refl }
 
-  pub handled-is : {r : Handled} {b′ s′ : List ℕ} → Is (handling h x b s p at) r b′ s′ → Handles p t h b s at r b′ s′
-  unfolding handling
+  pub handled-is : {r : Handled} {b′ s′ : List ℕ} → Is (nextHandled h x b s p at) r b′ s′ → Handles p t h b s at r b′ s′
+  unfolding nextHandled
   handled-is i = rw (i .result, i .block, i .store) (took-handled filled (tookAt h b p at) takes)
 
 module _ {t : List Field} {h : Head} {x : Field} {b s : List ℕ} (w : Seated t h x b s) where

@@ -143,8 +143,8 @@ abbrev pub tookAt : Head → List ℕ → List ℕ → ℕ → Took
 tookAt h b p at = taking (h .quirks) (crBefore b (h .line) (h .count)) (h .limit - h .count) (drop at p)
 
 -- one line of a piece, rules 1 to 4
-unfoldable pub handling : Head → Field → List ℕ → List ℕ → List ℕ → ℕ → Given Handled
-handling h last b s p at = handledTook h last (pasted b (h .count) (take (taken (tookAt h b p at)) (drop at p))) s at (tookAt h b p at)
+unfoldable pub nextHandled : Head → Field → List ℕ → List ℕ → List ℕ → ℕ → Given Handled
+nextHandled h last b s p at = handledTook h last (pasted b (h .count) (take (taken (tookAt h b p at)) (drop at p))) s at (tookAt h b p at)
 
 -- the leftover line, rule 5
 unfoldable pub ending : Head → Field → List ℕ → List ℕ → Given Handled

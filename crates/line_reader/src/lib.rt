@@ -11,7 +11,7 @@ ghost use lib.ListN.{length, take, drop};
 ghost use Rattle.leaves.specs.Octets.{before};
 ghost use Rattle.maps.specs.Maps.{Is};
 ghost use Rattle.line_reader.specs.Lying.{Lying};
-ghost use Rattle.line_reader.specs.Handling.{Able, slotOf, handledOf, handledBy, closing, handling, ending};
+ghost use Rattle.line_reader.specs.Handling.{Able, slotOf, handledOf, handledBy, closing, nextHandled, ending};
 
 // What a piece, or the end of input, did: more is wanted, a blank line or the end of input closed the reading, or a refusal.
 pub enum Answer {
@@ -143,7 +143,7 @@ pub fn handle_next(
     at: usize,
 ) -> Handled
     requires { ⌜ Able h last (now block) (now store) × (at ≤ length (now piece)) ⌝ }
-    ensures { λ r. ⌜ Is (handling h last (now (block .entry)) (now (store .entry)) (now (piece .entry)) at) r (now (block .exit)) (now (store .exit)) ⌝ }
+    ensures { λ r. ⌜ Is (nextHandled h last (now (block .entry)) (now (store .entry)) (now (piece .entry)) at) r (now (block .exit)) (now (store .exit)) ⌝ }
 {
     let count = h.count;
     let took = lines::take_line(piece, at, block, count, h.limit, h.line, h.quirks);

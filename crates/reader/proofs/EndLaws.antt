@@ -17,7 +17,7 @@ use Rattle.folds.specs.declared.Change.{Change}
 use Rattle.folds.specs.declared.Change.the-variants.{Nothing, Status as Headed, Put, Refused as Stops}
 use Rattle.folds.proofs.ListLaws.{laid}
 use Rattle.line_reader.specs.Standing.{rulesOf, answering}
-use Rattle.line_reader.specs.Handling.{Puts, slotOf, putIn, handling}
+use Rattle.line_reader.specs.Handling.{Puts, slotOf, putIn, nextHandled}
 use Rattle.line_reader.specs.declared.Answer.{Answer}
 use Rattle.line_reader.specs.declared.Answer.the-variants.{More, Blank, Input, Refused}
 use Rattle.line_reader.specs.declared.Handled.{Handled}
@@ -50,7 +50,7 @@ module _ (t : List Field) (c : Change) {i n : ℕ} (place : i ≡ n - 1) (few : 
 
 -- a turn of the loop, by the change that it made
 module _ {p b₀ s₀ b s : List ℕ} {m : HeaderMap} {at : ℕ} {a : Answer} {going : Bool} (t : List Field) (h : Head) (inv : Feeding p m b₀ s₀ 0 (under t h) b s at a going)
-    (go : going ≡ true) {i : ℕ} (place : i ≡ h .fields - 1) {r : Handled} {b′ s′ : List ℕ} (w : Is (handling h (getD t i noField) b s p at) r b′ s′) where
+    (go : going ≡ true) {i : ℕ} (place : i ≡ h .fields - 1) {r : Handled} {b′ s′ : List ℕ} (w : Is (nextHandled h (getD t i noField) b s p at) r b′ s′) where
   handledTook : Handles p t h b s at r b′ s′
   handledTook = handled-is (seated t h (inv .held) place) p at (inv .held .read) w
 

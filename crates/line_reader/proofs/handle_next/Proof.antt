@@ -2,7 +2,7 @@
 use borrow.Author.Needs.{needs}
 use native.Mathlib.Omega.{arith}
 use mathlib.Core.Path.{refl}
-use Rattle.line_reader.proofs.HandlingLaws.{handling-by, more-able, read-more, lies}
+use Rattle.line_reader.proofs.HandlingLaws.{nextHandled-by, more-able, read-more, lies}
 use Rattle.line_reader.proofs.handle_next.Statement.{statement}
 use Rattle.line_reader.proofs.handle_next.Tie as tie
 
@@ -68,7 +68,7 @@ returns : tie.Need-returns
 returns c =
     let z = c .before .before .before .before .before .before .before .before .before .before .before in
     let t = rw (c .before .before .took .given .1) at (c .before .before .before .before .before .before .take-line .ensures) in
-    rw (handling-by (z .pre .0) (z .args .piece .now) (z .args .at) t) (record { result = c .handled-of .ensures; block = refl; store = refl })
+    rw (nextHandled-by (z .pre .0) (z .args .piece .now) (z .args .at) t) (record { result = c .handled-of .ensures; block = refl; store = refl })
 
 same-length-2 : tie.Need-same-length-2
 same-length-2 c = search needs
@@ -77,7 +77,7 @@ returns-2 : tie.Need-returns-2
 returns-2 c =
     let z = c .before .before .before .before .before .before .before .before .before .before .before in
     let t = rw (c .before .before .took2 .given .1) at (c .before .before .before .before .before .before .take-line .ensures) in
-    rw (handling-by (z .pre .0) (z .args .piece .now) (z .args .at) t) (record { result = c .handled-of2 .ensures; block = refl; store = refl })
+    rw (nextHandled-by (z .pre .0) (z .args .piece .now) (z .args .at) t) (record { result = c .handled-of2 .ensures; block = refl; store = refl })
 
 same-length-3 : tie.Need-same-length-3
 same-length-3 c = search needs
@@ -89,7 +89,7 @@ returns-3 : tie.Need-returns-3
 returns-3 c =
     let z = c .before .before .before .before .before .before .before .before .before .before .before .before .before .before .before .before in
     let t = rw (c .before .before .before .before .before .before .before .took3 .given .1) at (c .before .before .before .before .before .before .before .before .before .before .before .take-line .ensures) in
-    rw (handling-by (z .pre .0) (z .args .piece .now) (z .args .at) t) (c .before .before .close-line .ensures)
+    rw (nextHandled-by (z .pre .0) (z .args .piece .now) (z .args .at) t) (c .before .before .close-line .ensures)
 
 pub handle-next-spec : {M : Type 1} → statement M
 handle-next-spec =
