@@ -48,14 +48,18 @@ pub fn lend_behind<'a>(s: &'a mut [u8], n: usize) -> &'a mut [u8] {
     s
 }
 
-// The octets from one place to before another; none where there are no such.
+// The octets from one place to before another, as far as there are such.
 pub fn part<'a>(s: &'a [u8], from: u64, to: u64) -> &'a [u8] {
     let a = from as usize;
     let e = to as usize;
-    if a <= e {
-        if e <= s.len() {
+    if e <= s.len() {
+        if a <= e {
             return &s[a..e];
         }
+        return &s[0..0];
+    }
+    if a <= s.len() {
+        return &s[a..];
     }
     &s[0..0]
 }
