@@ -59,6 +59,11 @@ pasted-more d s t a h =
     let w : a + length s + length t ≡ a + length (s ++ t) = rw length-append (omega arith) in
     rw (j, u, v, drop-drop, w, append-assoc, append-assoc)
 
+-- what is written within a text leaves its length
+pub length-pasted : (d : List ℕ) (a : ℕ) (s : List ℕ) → a + length s ≤ length d → length (pasted d a s) ≡ length d
+unfolding pasted
+length-pasted d a s h = simp (length-append, length-take, length-drop) (omega arith)
+
 pub paste-all : (d : List ℕ) (at : ℕ) (s : List ℕ) (n : ℕ) → n ≡ length s → paste d at s n ≡ pasted d at s
 unfolding pasted
 paste-all d at s n e = rw (e, take-length, append-assoc)

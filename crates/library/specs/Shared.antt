@@ -12,7 +12,7 @@ use Rattle.leaves.specs.Sanitise.{sanitised}
 use Rattle.maps.specs.Heads.{emptyHead}
 use Rattle.maps.specs.Maps.{Is}
 use Rattle.maps.specs.Said.{saying, statusAt}
-use Rattle.line_reader.specs.Handling.{nextHandled, ending}
+use Rattle.line_reader.specs.Handling.{nextHandled, lastHandled}
 use Rattle.reader.specs.Calls.{checkedRooms}
 use Rattle.reader.specs.Heads.{headAfter}
 use Rattle.lookups.specs.Lookups.{handedOut, statusIn}
@@ -33,7 +33,7 @@ pub record Shared : Type 0 where
   -- handle_next(h, last, block, store, piece, at)
   pub handle-next : Says Rattle.line_reader.proofs.handle_next.Reads.Learnt (λ κ a r e. Is (nextHandled (first a) (second a) (now (third a)) (now (fourth a)) (now (fifth a)) (sixth a)) r (now (third e)) (now (fourth e)))
   -- handle_last(h, last, block, store)
-  pub handle-last : Says Rattle.line_reader.proofs.handle_last.Reads.Learnt (λ κ a r e. Is (ending (first a) (second a) (now (third a)) (now (fourth a))) r (now (third a)) (now (fourth e)))
+  pub handle-last : Says Rattle.line_reader.proofs.handle_last.Reads.Learnt (λ κ a r e. Is (lastHandled (first a) (second a) (now (third a)) (now (fourth a))) r (now (third a)) (now (fourth e)))
   -- the reader
   -- empty_head(limit, room, awaits, quirks, phase)
   pub empty-head : Says Rattle.reader.proofs.empty_head.Reads.Learnt (λ κ a r e. r ≡ emptyHead (first a) (second a) (third a) (fourth a) (fifth a))

@@ -24,7 +24,7 @@ use Rattle.folds.specs.declared.Change.{Change}
 use Rattle.folds.specs.declared.Change.the-variants.{Nothing, Status as Headed, Put, Refused as Stops}
 use Rattle.folds.proofs.ListLaws.{take-pasted}
 use Rattle.line_reader.specs.Lying.{Lying}
-use Rattle.line_reader.specs.Handling.{Able, Puts, slotOf, counted, nextLine, handledBy, stopsAt, rulingAt, handling, closing, handledTook, nextHandled, ending}
+use Rattle.line_reader.specs.Handling.{Able, Puts, slotOf, counted, nextLine, handledBy, stopsAt, rulingAt, handling, lineEnded, handledTook, nextHandled, lastHandled}
 use Rattle.line_reader.specs.declared.Answer.{Answer}
 use Rattle.line_reader.specs.declared.Answer.the-variants.{More, Blank, Input}
 use Rattle.line_reader.specs.declared.Handled.{Handled}
@@ -82,22 +82,22 @@ module _ {h : Head} {last : Field} {b s : List ℕ} (able : Able h last b s) whe
   line-cut = drop-take (h .line) (h .count) b
 
   module _ (taken : ℕ) where
-    pub closing-blank : endsBlock (h .quirks) (take (h .count - h .line) (drop (h .line) b)) ≡ true
-        → closing h last b s taken ≡ record { result = stopsAt (nextLine h) taken Blank; block = b; store = s }
-    unfolding closing
-    closing-blank e = if-true _ _ (rw line-cut e)
+    pub ended-blank : endsBlock (h .quirks) (take (h .count - h .line) (drop (h .line) b)) ≡ true
+        → lineEnded h last b s taken ≡ record { result = stopsAt (nextLine h) taken Blank; block = b; store = s }
+    unfolding lineEnded
+    ended-blank e = if-true _ _ (rw line-cut e)
 
-    pub closing-on : endsBlock (h .quirks) (take (h .count - h .line) (drop (h .line) b)) ≡ false → closing h last b s taken ≡ handling h last b s taken More true
-    unfolding closing
-    closing-on e = if-false _ _ (rw line-cut e)
+    pub ended-on : endsBlock (h .quirks) (take (h .count - h .line) (drop (h .line) b)) ≡ false → lineEnded h last b s taken ≡ handling h last b s taken More true
+    unfolding lineEnded
+    ended-on e = if-false _ _ (rw line-cut e)
 
-  pub ending-left : h .line < h .count → ending h last b s ≡ handling h last b s 0 Input false
-  unfolding ending
-  ending-left l = if-true _ _ (lt-ltb (h .line) (h .count) l)
+  pub last-left : h .line < h .count → lastHandled h last b s ≡ handling h last b s 0 Input false
+  unfolding lastHandled
+  last-left l = if-true _ _ (lt-ltb (h .line) (h .count) l)
 
-  pub ending-none : h .count ≤ h .line → ending h last b s ≡ record { result = stopsAt h 0 Input; block = b; store = s }
-  unfolding ending
-  ending-none l = if-false _ _ (le-ltb (h .line) (h .count) l)
+  pub last-none : h .count ≤ h .line → lastHandled h last b s ≡ record { result = stopsAt h 0 Input; block = b; store = s }
+  unfolding lastHandled
+  last-none l = if-false _ _ (le-ltb (h .line) (h .count) l)
 
   -- what take_line took
   module _ (p : List ℕ) (at : ℕ) {b′ : List ℕ} {took : Took} (w : Takes (h .quirks) (crBefore b (h .line) (h .count)) (h .limit - h .count) (h .count) (drop at p) b b′ took) where

@@ -10,6 +10,7 @@ use lib.ListN.{length, take, drop, getD, set, length-append, length-take, length
 use lib.Seq.{getD-take, length-take-le, take-take, take-suc-set, drop-set-lt, drop-drop}
 use Rattle.leaves.specs.Paste.{pasted}
 use Rattle.leaves.proofs.ChoiceLaws.{by-if, if-true, if-false}
+use Rattle.leaves.proofs.PasteLaws.{length-pasted}
 use Rattle.lines.specs.Line.{taken, crBefore, Takes}
 use Rattle.lines.specs.declared.Took.{Took}
 use Rattle.lines.specs.declared.Took.the-variants.{Line, More as Piece, Full as Limit}
@@ -31,7 +32,7 @@ use Rattle.folds.specs.declared.Change.the-variants.{Nothing, Status as Headed,
 use Rattle.folds.proofs.ListLaws.{take-pasted, drop-pasted, pasted-none}
 use Rattle.line_reader.specs.Reading.{Rules, Gathered, Reading, ruled, lined, closed, fed, finished}
 use Rattle.line_reader.specs.Standing.{rulesOf, answering, readingOf}
-use Rattle.line_reader.specs.Handling.{Able, Puts, putIn, headWith, counted, nextLine, headBy, answerBy, goingBy, stopsAt, rulingAt, handling, closing, handledTook, tookAt, nextHandled, ending}
+use Rattle.line_reader.specs.Handling.{Able, Puts, putIn, headWith, counted, nextLine, headBy, answerBy, goingBy, stopsAt, rulingAt, handling, lineEnded, handledTook, tookAt, nextHandled, lastHandled}
 use Rattle.line_reader.specs.declared.Answer.{Answer}
 use Rattle.line_reader.specs.declared.Answer.the-variants.{More, Blank, Input, Refused}
 use Rattle.line_reader.specs.declared.Handled.{Handled}
@@ -39,11 +40,6 @@ use Rattle.line_reader.proofs.FitLaws.{Putting, FineC, ruled-table}
 use Rattle.line_reader.proofs.OctetSteps.{cr-cut, still, onward, by-line, taking-short}
 use Rattle.line_reader.proofs.HandlingLaws.{count-long, fine, puts, none-puts, read-more, take-more}
 use Rattle.line_reader.proofs.HeldLaws.{Held, held-on, goOn, Feeding}
-
--- what is written within a loan leaves its length
-length-pasted : (d : List ℕ) (a : ℕ) (s : List ℕ) → a + length s ≤ length d → length (pasted d a s) ≡ length d
-unfolding pasted
-length-pasted d a s h = simp (length-append, length-take, length-drop) (omega arith)
 
 -- a table under a head with its last field, over loans that are long enough
 pub record Seated (t : List Field) (h : Head) (x : Field) (b s : List ℕ) : Type 0 where
@@ -349,8 +345,8 @@ module _ {t : List Field} {h : Head} {x : Field} {b s : List ℕ} (w : Seated t 
           puts = puts (able next);
         }
 
-    line-handled : LineHandled (closing after x b′ s (at + k))
-    unfolding closing
+    line-handled : LineHandled (lineEnded after x b′ s (at + k))
+    unfolding lineEnded
     line-handled = by-if LineHandled _ _ _ line-blank line-on
 
 module _ {t : List Field} {h : Head} {x : Field} {b s : List ℕ} (w : Seated t h x b s) (p : List ℕ) (at : ℕ) (read : at ≤ length p) where
@@ -416,6 +412,6 @@ module _ {t : List Field} {h : Head} {x : Field} {b s : List ℕ} (w : Seated t 
         puts = none-puts;
       }
 
-  pub end-is : {r : Handled} {b′ s′ : List ℕ} → Is (ending h x b s) r b′ s′ → Ended t h b s r b′ s′
-  unfolding ending
+  pub end-is : {r : Handled} {b′ s′ : List ℕ} → Is (lastHandled h x b s) r b′ s′ → Ended t h b s r b′ s′
+  unfolding lastHandled
   end-is i = rw (i .result, i .block, i .store) (by-if Ends _ _ _ left-ends none-ends)

@@ -126,8 +126,8 @@ handling h last b s taken a going =
     record { result = handledBy h (rulingAt h last b s .change) taken a going; block = b; store = pasted s (h .mark) (rulingAt h last b s .new) }
 
 -- a line that has ended ends the block, or is handled by rule 4
-unfoldable pub closing : Head → Field → List ℕ → List ℕ → ℕ → Given Handled
-closing h last b s taken =
+unfoldable pub lineEnded : Head → Field → List ℕ → List ℕ → ℕ → Given Handled
+lineEnded h last b s taken =
     if endsBlock (h .quirks) (drop (h .line) (take (h .count) b))
     then record { result = stopsAt (nextLine h) taken Blank; block = b; store = s }
     else handling h last b s taken More true
@@ -136,7 +136,7 @@ closing h last b s taken =
 abbrev pub handledTook : Head → Field → List ℕ → List ℕ → ℕ → Took → Given Handled
 handledTook h last b s at (Piece k) = record { result = stopsAt (counted h k) (at + k) More; block = b; store = s }
 handledTook h last b s at (Limit k) = record { result = stopsAt (counted h k) (at + k) (Refused (refusal 4)); block = b; store = s }
-handledTook h last b s at (Line k) = closing (counted h k) last b s (at + k)
+handledTook h last b s at (Line k) = lineEnded (counted h k) last b s (at + k)
 
 -- octets of a piece from a place on, until a line ends, the piece does, or the count is the limit
 abbrev pub tookAt : Head → List ℕ → List ℕ → ℕ → Took
@@ -147,7 +147,7 @@ unfoldable pub nextHandled : Head → Field → List ℕ → List ℕ → List �
 nextHandled h last b s p at = handledTook h last (pasted b (h .count) (take (taken (tookAt h b p at)) (drop at p))) s at (tookAt h b p at)
 
 -- the leftover line, rule 5
-unfoldable pub ending : Head → Field → List ℕ → List ℕ → Given Handled
-ending h last b s =
+unfoldable pub lastHandled : Head → Field → List ℕ → List ℕ → Given Handled
+lastHandled h last b s =
     if ltb (h .line) (h .count) then handling h last b s 0 Input false
     else record { result = stopsAt h 0 Input; block = b; store = s }

@@ -11,7 +11,7 @@ ghost use lib.ListN.{length, take, drop};
 ghost use Rattle.leaves.specs.Octets.{before};
 ghost use Rattle.maps.specs.Maps.{Is};
 ghost use Rattle.line_reader.specs.Lying.{Lying};
-ghost use Rattle.line_reader.specs.Handling.{Able, slotOf, handledOf, handledBy, closing, nextHandled, ending};
+ghost use Rattle.line_reader.specs.Handling.{Able, slotOf, handledOf, handledBy, lineEnded, nextHandled, lastHandled};
 
 // What a piece, or the end of input, did: more is wanted, a blank line or the end of input closed the reading, or a refusal.
 pub enum Answer {
@@ -107,7 +107,7 @@ fn close_line(
     whole: bool,
 ) -> Handled
     requires { ⌜ Able h last (now block) (now store) × Lying (now piece) from k (take (h .count - h .line) (drop (h .line) (now block))) whole ⌝ }
-    ensures { λ r. ⌜ Is (closing h last (now (block .entry)) (now (store .entry)) (from + k)) r (now (block .entry)) (now (store .exit)) ⌝ }
+    ensures { λ r. ⌜ Is (lineEnded h last (now (block .entry)) (now (store .entry)) (from + k)) r (now (block .entry)) (now (store .exit)) ⌝ }
 {
     let start = h.line;
     let count = h.count;
@@ -176,7 +176,7 @@ pub fn handle_next(
 // Handles the leftover line of a reading that stands at a head, if there is one.
 pub fn handle_last(h: Head, last: Field, block: &[u8], store: &mut [u8]) -> Handled
     requires { ⌜ Able h last (now block) (now store) ⌝ }
-    ensures { λ r. ⌜ Is (ending h last (now (block .entry)) (now (store .entry))) r (now (block .entry)) (now (store .exit)) ⌝ }
+    ensures { λ r. ⌜ Is (lastHandled h last (now (block .entry)) (now (store .entry))) r (now (block .entry)) (now (store .exit)) ⌝ }
 {
     let start = h.line;
     let count = h.count;

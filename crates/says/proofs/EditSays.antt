@@ -8,6 +8,7 @@ use lib.ListN.{length}
 use Rattle.leaves.specs.Paste.{pasted}
 use Rattle.leaves.specs.Sanitise.{sanitised}
 use Rattle.leaves.proofs.LayLaws.{lay-take}
+use Rattle.leaves.proofs.PasteLaws.{length-pasted}
 use Rattle.maps.specs.Good.{live, checkedDone, in-store, FitAll, fit-at}
 use Rattle.maps.specs.Maps.{Given}
 use Rattle.maps.specs.declared.Field.{Field}
@@ -24,7 +25,7 @@ use Rattle.maps.proofs.FitLaws.{status-mono, all-mono, all-snoc}
 use Rattle.edits.proofs.FieldLaws.{keeps-fit, replaced-fit}
 use Rattle.edits.proofs.OutcomeLaws.{DoneBy, Outcome, made-of, setting-outcome, appending-outcome, removing-outcome, statusing-outcome}
 use Rattle.says.specs.Says.{Ask, ask-set, ask-append, ask-remove, ask-status, asked, askSaid, askText, after, usable}
-use Rattle.says.proofs.AgainLaws.{again, pasted-long, new-fits}
+use Rattle.says.proofs.AgainLaws.{again, new-fits}
 use Rattle.says.proofs.MadeSays.{kept-says, set-made, append-made, status-made}
 
 module _ {m : HeaderMap} {b s : List ℕ} {n : HeaderMap} {t : List ℕ} {g : Given Edited} where
@@ -33,7 +34,7 @@ module _ {m : HeaderMap} {b s : List ℕ} {n : HeaderMap} {t : List ℕ} {g : Gi
 
   module _ (d : DoneBy m b s n t g) where
     long : length (pasted s (m .mark) t) ≡ length s
-    long = let w = ready-of _ m b s (d .fine) in pasted-long s (m .mark) t (omega (arith, d .fits, w .store))
+    long = let w = ready-of _ m b s (d .fine) in length-pasted s (m .mark) t (omega (arith, d .fits, w .store))
 
     made-usable : Fine ≡ checkedDone n b (pasted s (m .mark) t) → Fine ≡ usable g
     made-usable e = e ∙ ap usable (sym (d .is))

@@ -11,13 +11,40 @@ const BLANK: u32 = 65;
 
 const INPUT: u32 = 66;
 
+const YES: u32 = 69;
+
 // The limit of a block, and the room of its store.
 const LIMIT: usize = 32768;
 
-// What ended a block, and the octets that it took; the answer is 0 where its file could not be opened or read, which was said.
+// How a block's first line is taken: by what it begins with, as a status or as a field.
+pub const TELLS: u64 = 0;
+
+pub const IS_STATUS: u64 = 1;
+
+pub const IS_FIELD: u64 = 2;
+
+// What ended a block, the octets that it took, and whether it was to have a status; the answer is 0 where its file could not be opened or read, which
+// was said.
 struct Ended {
     answer: u32,
     taken: u64,
+    status: bool,
+}
+
+fn is_versioned(s: &[u8]) -> bool {
+    if texts::begins(s, b"HTTP/") {
+        return true;
+    }
+    texts::begins(s, b"WARC/")
+}
+
+// Whether a block is to have a status.
+fn awaits(first: u64, s: &[u8]) -> bool {
+    match first {
+        IS_STATUS => true,
+        IS_FIELD => false,
+        _ => is_versioned(s),
+    }
 }
 
 fn begin(
@@ -69,7 +96,7 @@ fn is_over(n: u64) -> bool {
 // Opens a file and reads its header block in large pieces, until one ends it or nothing more comes.
 fn load(
     path: &[u8],
-    status: bool,
+    first: u64,
     quirks: bool,
     head: &mut [u64; 13],
     table: &mut [u32; 1024],
@@ -79,12 +106,12 @@ fn load(
     let mut typed = [0u8; 262144];
     let mut taken = 0u64;
     let mut all = 0u64;
-    let mut n = 0u64;
     let mut answer = MORE;
     let fd = inputs::open(path);
+    let mut n = inputs::read_first(fd, path, &mut typed);
+    let status = awaits(first, inputs::piece(&typed, 0, n));
     begin(head, table, block, store, status, quirks);
     for _ in 0..inputs::TURNS {
-        n = inputs::read(fd, path, &mut typed);
         if is_over(n) {
             break;
         }
@@ -100,11 +127,13 @@ fn load(
         if answer != MORE {
             break;
         }
+        n = inputs::read(fd, path, &mut typed);
     }
     inputs::close(fd);
     Ended {
         answer: finish(n, answer, head, table, block, store),
         taken: all,
+        status,
     }
 }
 
@@ -230,6 +259,27 @@ fn say_ending(said: &mut [u8; 65536], answer: u32, taken: u64) -> usize {
     }
 }
 
+// A map in words: its status and its fields.
+pub fn map<'a>(
+    said: &mut [u8; 65536],
+    at: usize,
+    head: &[u64; 13],
+    table: &[u32; 1024],
+    block: &'a [u8; 32768],
+    store: &'a [u8; 32768],
+) -> usize {
+    let next = say_status(said, at, head, block, store);
+    fields(said, next, head[5], table, block, store)
+}
+
+// The status of a block that was shown or written.
+fn closed(answer: u32, next: usize) -> u64 {
+    match answer {
+        BLANK => inputs::written(next),
+        _ => inputs::BAD,
+    }
+}
+
 // A block that was read, in words; of one that was refused nothing stands.
 fn show<'a>(
     answer: u32,
@@ -247,18 +297,91 @@ fn show<'a>(
         out::flush(libc::STDOUT_FILENO, &said, a);
         return inputs::BAD;
     }
-    let b = say_status(&mut said, a, head, block, store);
-    let c = fields(&mut said, b, head[5], table, block, store);
+    let b = map(&mut said, a, head, table, block, store);
     let clean = abi::telling::bisquecrow_clean(head, table, block, store);
-    let d = tests(
+    let c = tests(
         &mut said,
-        c,
+        b,
         clean,
         texts::front(block, taken as usize),
         status,
         quirks,
     );
-    inputs::written(out::flush(libc::STDOUT_FILENO, &said, d))
+    closed(answer, out::flush(libc::STDOUT_FILENO, &said, c))
+}
+
+// Says so where a block did not end that would have, had its lines ended otherwise.
+fn hint(path: &[u8], answer: u32, quirks: bool, block: &[u8; 32768]) {
+    if answer != BLANK {
+        if !quirks {
+            if texts::is_lf_alone(block) {
+                inputs::remark(forms::LF_HEADER, path, 0);
+            }
+        }
+    }
+}
+
+// Shows a file's header block.
+pub fn header(path: &[u8], several: bool, first: u64, quirks: bool) -> u64 {
+    let mut head = [0u64; 13];
+    let mut table = [0u32; 1024];
+    let mut block = [0u8; 32768];
+    let mut store = [0u8; 32768];
+    let ended = load(
+        path,
+        first,
+        quirks,
+        &mut head,
+        &mut table,
+        &mut block,
+        &mut store,
+    );
+    let answer = ended.answer;
+    if answer == 0 {
+        return inputs::UNREAD;
+    }
+    hint(path, answer, quirks, &block);
+    inputs::headline(path, several);
+    show(
+        answer,
+        ended.taken,
+        ended.status,
+        quirks,
+        &head,
+        &table,
+        &block,
+        &store,
+    )
+}
+
+// Whether a block was read; what is amiss is said.
+fn is_read(path: &[u8], answer: u32) -> bool {
+    match answer {
+        BLANK => true,
+        INPUT => {
+            inputs::remark(forms::CUT_OFF, path, 0);
+            true
+        }
+        _ => {
+            inputs::remark(forms::REFUSES, path, wide(answer));
+            false
+        }
+    }
+}
+
+// Whether a map is clean; if not, that is said.
+fn is_clean<'a>(
+    path: &[u8],
+    head: &[u64; 13],
+    table: &[u32; 1024],
+    block: &'a [u8; 32768],
+    store: &'a [u8; 32768],
+) -> bool {
+    if abi::telling::bisquecrow_clean(head, table, block, store) == YES {
+        return true;
+    }
+    inputs::remark(forms::UNCLEAN, path, 0);
+    false
 }
 
 // Writes a map's rebuilt block.
@@ -273,36 +396,26 @@ fn rebuild<'a>(
     let mut sheet = [0u8; 65536];
     let mut count = 0u64;
     if is_read(path, answer) {
-        abi::writing::bisquecrow_rebuild(head, table, block, store, &mut sheet, &mut count);
-        return inputs::written(out::flush(libc::STDOUT_FILENO, &sheet, count as usize));
+        if is_clean(path, head, table, block, store) {
+            abi::writing::bisquecrow_rebuild(head, table, block, store, &mut sheet, &mut count);
+            return closed(
+                answer,
+                out::flush(libc::STDOUT_FILENO, &sheet, count as usize),
+            );
+        }
     }
     inputs::BAD
 }
 
-// Whether a block was read; what is amiss is said.
-fn is_read(path: &[u8], answer: u32) -> bool {
-    match answer {
-        BLANK => true,
-        INPUT => {
-            inputs::remark(forms::CUT_OFF, path, answer);
-            true
-        }
-        _ => {
-            inputs::remark(forms::REFUSES, path, answer);
-            false
-        }
-    }
-}
-
-// Shows a file's header block, or writes it rebuilt.
-pub fn header(path: &[u8], status: bool, quirks: bool, rebuilt: bool) -> u64 {
+// Writes a file's header block rebuilt.
+pub fn tidy(path: &[u8], first: u64, quirks: bool) -> u64 {
     let mut head = [0u64; 13];
     let mut table = [0u32; 1024];
     let mut block = [0u8; 32768];
     let mut store = [0u8; 32768];
     let ended = load(
         path,
-        status,
+        first,
         quirks,
         &mut head,
         &mut table,
@@ -313,19 +426,8 @@ pub fn header(path: &[u8], status: bool, quirks: bool, rebuilt: bool) -> u64 {
     if answer == 0 {
         return inputs::UNREAD;
     }
-    if rebuilt {
-        return rebuild(path, answer, &head, &table, &block, &store);
-    }
-    show(
-        answer,
-        ended.taken,
-        status,
-        quirks,
-        &head,
-        &table,
-        &block,
-        &store,
-    )
+    hint(path, answer, quirks, &block);
+    rebuild(path, answer, &head, &table, &block, &store)
 }
 
 // The form for a resume check's answer.
@@ -357,11 +459,11 @@ fn whole(path: &[u8], answer: u32) -> u64 {
         0 => inputs::UNREAD,
         BLANK => inputs::GOOD,
         INPUT => {
-            inputs::remark(forms::CUT_OFF, path, answer);
+            inputs::remark(forms::CUT_OFF, path, 0);
             say_verdict(answer)
         }
         _ => {
-            inputs::remark(forms::REFUSES, path, answer);
+            inputs::remark(forms::REFUSES, path, wide(answer));
             inputs::BAD
         }
     }
@@ -394,7 +496,7 @@ fn compare<'a>(
     let mut store2 = [0u8; 32768];
     let ended = load(
         second,
-        true,
+        IS_STATUS,
         false,
         &mut head2,
         &mut table2,
@@ -416,7 +518,7 @@ pub fn resume(first: &[u8], second: &[u8]) -> u64 {
     let mut store = [0u8; 32768];
     let ended = load(
         first,
-        true,
+        IS_STATUS,
         false,
         &mut head,
         &mut table,

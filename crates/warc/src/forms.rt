@@ -2,7 +2,8 @@
 //
 //     #  the number                                $  two numbers, a place: its octets, as far as a terminal takes them for nothing else
 //     <  an offset of a place                      ?  the same as a column: without spaces, - for none
-//     ^  the name of a record type                 %  what a test answered
+//     ^  the name of a record type                 *  the same as a string of JSON, null for none
+//     &  the same as a string of JSON              %  what a test answered
 //
 // and some for none of them:
 //
@@ -18,43 +19,67 @@ pub const STORE: u64 = 2147483648;
 // The forms.
 pub const LISTED: usize = 0;
 
-pub const GOOD: usize = 1;
+pub const DESCRIBED: usize = 1;
 
-pub const STOPPED: usize = 2;
+pub const GOOD: usize = 2;
 
-pub const UNREADABLE: usize = 3;
+pub const STOPPED: usize = 3;
 
-pub const SO_FAR: usize = 4;
+pub const UNREADABLE: usize = 4;
 
-pub const BLANK: usize = 5;
+pub const NO_RECORD: usize = 5;
 
-pub const INPUT: usize = 6;
+pub const BROKEN: usize = 6;
 
-pub const REFUSED: usize = 7;
+pub const RECORD: usize = 7;
 
-pub const STATUS: usize = 8;
+pub const SO_FAR: usize = 8;
 
-pub const NO_STATUS: usize = 9;
+pub const BLANK: usize = 9;
 
-pub const FIELD: usize = 10;
+pub const INPUT: usize = 10;
 
-pub const TESTS: usize = 11;
+pub const REFUSED: usize = 11;
 
-pub const CUT_OFF: usize = 12;
+pub const STATUS: usize = 12;
 
-pub const REFUSES: usize = 13;
+pub const NO_STATUS: usize = 13;
 
-pub const APPEND: usize = 14;
+pub const FIELD: usize = 14;
 
-pub const NO_TAG: usize = 15;
+pub const TESTS: usize = 15;
 
-pub const DIFFER: usize = 16;
+pub const HEADLINE: usize = 16;
 
-pub const NOT_PARTIAL: usize = 17;
+pub const CUT_OFF: usize = 17;
 
-pub const NOT_WHOLE: usize = 18;
+pub const REFUSES: usize = 18;
 
-pub const NOT_READ: usize = 19;
+pub const UNCLEAN: usize = 19;
+
+pub const APPEND: usize = 20;
+
+pub const NO_TAG: usize = 21;
+
+pub const DIFFER: usize = 22;
+
+pub const NOT_PARTIAL: usize = 23;
+
+pub const NOT_WHOLE: usize = 24;
+
+pub const NOT_READ: usize = 25;
+
+pub const PACKED: usize = 26;
+
+pub const LF_ALONE: usize = 27;
+
+pub const NO_WARC: usize = 28;
+
+pub const LF_HEADER: usize = 29;
+
+pub const NO_START: usize = 30;
+
+pub const NOTHING: usize = 31;
 
 // The row for one, or the row for another number.
 fn by_number(n: u64, one: u64, other: u64) -> u64 {
@@ -150,7 +175,7 @@ an octet at position 4611686018427387904 or later would be taken
 ",
         row as usize,
     );
-    out::octets(said, at, words, b' ')
+    out::words(said, at, words)
 }
 
 fn offset(n: u64) -> u64 {
@@ -178,7 +203,40 @@ fn part<'a>(block: &'a [u8], store: &'a [u8], from: u64, to: u64) -> &'a [u8] {
 fn column(said: &mut [u8; 65536], at: usize, s: &[u8]) -> usize {
     match s.len() {
         0 => out::octet(said, at, b'-'),
-        _ => out::octets(said, at, s, b'!'),
+        _ => out::octets(said, at, s, out::COLUMN),
+    }
+}
+
+// Octets as a string of JSON.
+pub fn string(said: &mut [u8; 65536], at: usize, s: &[u8]) -> usize {
+    let a = out::octet(said, at, b'"');
+    let b = out::octets(said, a, s, out::STRING);
+    out::octet(said, b, b'"')
+}
+
+// No value lies at 0, where a header's first line begins.
+fn string_at<'a>(
+    said: &mut [u8; 65536],
+    at: usize,
+    from: u64,
+    to: u64,
+    block: &'a [u8],
+    store: &'a [u8],
+) -> usize {
+    match to {
+        0 => out::words(said, at, b"null"),
+        _ => string(said, at, part(block, store, from, to)),
+    }
+}
+
+fn kind_string(said: &mut [u8; 65536], at: usize, code: u64) -> usize {
+    match code {
+        0 => out::words(said, at, b"null"),
+        _ => {
+            let a = out::octet(said, at, b'"');
+            let b = name(said, a, kind(code));
+            out::octet(said, b, b'"')
+        }
     }
 }
 
@@ -195,8 +253,10 @@ fn sign<'a>(
     match x {
         b'#' | b'<' => out::decimal(said, at, shown(x, n)),
         b'!' | b'^' | b'~' | b'=' | b'@' | b'%' => name(said, at, row(x, n)),
-        b'$' => out::octets(said, at, part(block, store, n, to), b' '),
+        b'$' => out::octets(said, at, part(block, store, n, to), out::TEXT),
         b'?' => column(said, at, part(block, store, n, to)),
+        b'*' => string_at(said, at, n, to, block, store),
+        b'&' => kind_string(said, at, n),
         b'|' => out::octet(said, at, b'\n'),
         _ => out::octet(said, at, x),
     }
@@ -205,8 +265,8 @@ fn sign<'a>(
 // How many numbers a sign stands for.
 fn width(x: u8) -> usize {
     match x {
-        b'#' | b'<' | b'^' | b'%' => 1,
-        b'$' | b'?' => 2,
+        b'#' | b'<' | b'^' | b'&' | b'%' => 1,
+        b'$' | b'?' | b'*' => 2,
         _ => 0,
     }
 }
@@ -257,9 +317,13 @@ pub fn say<'a>(
 ) -> usize {
     let words = texts::line(
         b"# # # ^ ? ?
+,\"start\":#,\"body\":#,\"length\":#,\"type\":&,\"date\":*,\"uri\":*}
 good: # ~, # octets
 stopped at position # by number #: !; # ~ before it = good, up to position #
 unreadable at position #; # ~ before it = good, up to position #
+no record starts at position #, where the file ends or behind it
+stopped at position # by number #: !
+start: #|body: #|length: #|type: ^
 so far: # ~, # octets
 ended by a blank line; octets taken: #
 ended by the end of input, without a blank line; octets taken: #
@@ -268,14 +332,21 @@ status: @<..<: $
 status: none
 field #: key @<..<, value @<..<: $: $
 clean: %|tidy: %|grammatical: %
+file $:
 $: the header ended by the end of input, without a blank line
 $: the header stopped by number #: !
+$: nothing is written: the header is not clean, and would not be read back as it was
 append
 do not append: one of the two has not exactly one ETag, or an empty one
 do not append: the two ETags differ
 do not append: the second answer's code is not 206
 do not append: a header was cut off before its blank line
 do not append: one of the two is no header that was read
+$: this is packed by gzip: unpack it first, as by gunzip
+$: its lines end in LF alone, and those of a WARC file end in CR LF
+$: this is no WARC file, which begins with WARC/1.0 or WARC/1.1
+$: its lines end in LF alone: --quirks reads such a header
+$: warc walk lists where records start
 ",
         form,
     );

@@ -27,16 +27,31 @@ pub fn written(next: usize) -> u64 {
 // Names a path and says why the last call on it failed. The room holds a path of which each octet is said as %XX.
 pub fn fail(path: &[u8]) {
     let mut said = [0u8; 65536];
-    let at = out::octets(&mut said, 0, path, b' ');
+    let at = out::octets(&mut said, 0, path, out::TEXT);
     os::fail(out::front(&said, at));
 }
 
-// Says a form of a path and a refusal, on standard error.
-pub fn remark(form: usize, path: &[u8], answer: u32) {
+// Says a form of a path and a number, on a descriptor.
+fn say_of(fd: i32, form: usize, path: &[u8], a: u64) -> u64 {
     let mut said = [0u8; 65536];
     let n = path.len() as u64;
-    let at = forms::say(&mut said, 0, form, &[0, n, answer as u64], path, path);
-    out::flush(libc::STDERR_FILENO, &said, at);
+    let at = forms::say(&mut said, 0, form, &[0, n, a], path, path);
+    written(out::flush(fd, &said, at))
+}
+
+// Says a form of a path and a number, on standard error, unless it is that of nothing.
+pub fn remark(form: usize, path: &[u8], a: u64) {
+    if form != forms::NOTHING {
+        say_of(libc::STDERR_FILENO, form, path, a);
+    }
+}
+
+// The line before what is said of a file that is one of several.
+pub fn headline(path: &[u8], several: bool) -> u64 {
+    match several {
+        true => say_of(libc::STDOUT_FILENO, forms::HEADLINE, path, 0),
+        false => GOOD,
+    }
 }
 
 fn opened(path: &[u8]) -> i32 {
@@ -47,7 +62,7 @@ fn opened(path: &[u8]) -> i32 {
     fd
 }
 
-pub fn is_standard(path: &[u8]) -> bool {
+fn is_standard(path: &[u8]) -> bool {
     if path.len() == 1 {
         return path[0] == b'-';
     }
@@ -81,7 +96,73 @@ pub fn read(fd: i32, path: &[u8], typed: &mut [u8; 262144]) -> u64 {
     io::count(got, typed) as u64
 }
 
+// Reads n octets, or those that there are.
+fn read_full(fd: i32, typed: &mut [u8], n: usize) -> u64 {
+    if n < typed.len() {
+        return io::read_full(fd, &mut typed[..n]) as u64;
+    }
+    0
+}
+
+// Reads the first five octets, or those that there are; answers as `read` does.
+pub fn read_first(fd: i32, path: &[u8], typed: &mut [u8; 262144]) -> u64 {
+    if fd < 0 {
+        return FAILED;
+    }
+    let n = read_full(fd, typed, 5);
+    match n {
+        0 => read(fd, path, typed),
+        _ => n,
+    }
+}
+
 // What was read, from a place before another.
 pub fn piece<'a>(typed: &'a [u8; 262144], from: u64, to: u64) -> &'a [u8] {
     texts::part(typed, from as usize, to as usize)
+}
+
+// Reads up to n octets, and answers how many came.
+fn read_some(fd: i32, typed: &mut [u8], n: usize) -> u64 {
+    if n < typed.len() {
+        let got = libc::read(fd, &mut typed[..n]);
+        return io::count(got, typed) as u64;
+    }
+    let got = libc::read(fd, typed);
+    io::count(got, typed) as u64
+}
+
+// Passes over some of what is left, and answers what is left then; nothing where nothing more comes.
+fn pass_some(fd: i32, typed: &mut [u8; 4096], left: u64) -> u64 {
+    let passed = read_some(fd, typed, left as usize);
+    match passed {
+        0 => 0,
+        _ => std::num::wrapping_sub_u64(left, passed),
+    }
+}
+
+// Passes over what stands before a start where the input has no places.
+fn pass(fd: i32, start: u64) {
+    let mut typed = [0u8; 4096];
+    let mut left = start;
+    for _ in 0..TURNS {
+        if left == 0 {
+            return;
+        }
+        left = pass_some(fd, &mut typed, left);
+    }
+}
+
+// Goes to a start where the input has places; whether it has.
+fn is_set(fd: i32, start: u64) -> bool {
+    if start < 1000000000000000000 {
+        return libc::lseek(fd, start as i64, libc::SEEK_SET) >= 0;
+    }
+    false
+}
+
+// Goes to a start.
+pub fn seek(fd: i32, start: u64) {
+    if !is_set(fd, start) {
+        pass(fd, start);
+    }
 }

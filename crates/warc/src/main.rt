@@ -1,6 +1,7 @@
 // The program `warc`: what a person runs on a file.
 mod blocks;
 mod forms;
+mod helps;
 mod inputs;
 mod out;
 mod texts;
@@ -9,12 +10,28 @@ mod walks;
 // Where the exit status is written, since a program has none of its own.
 const STATUS_FILENO: i32 = 3;
 
-// The words that are options.
-const STATUS: usize = 8;
+// What an argument is, by the lines of `word`, of which the commands are the first.
+const PROGRAM: usize = 7;
 
-const QUIRKS: usize = 9;
+const VERSION: usize = 8;
 
-// The number of the word that argument i is, by the lines below; 10 where it is none.
+const HELP: usize = 9;
+
+const JSON: usize = 10;
+
+const STATUS: usize = 11;
+
+const FIELDS: usize = 12;
+
+const QUIRKS: usize = 13;
+
+const FILE: usize = 18;
+
+const STANDARD: usize = 19;
+
+const STRANGE: usize = 20;
+
+// The number of the word that argument i is, by the lines below; FILE where it is none.
 fn word(i: usize) -> usize {
     let mut room = [0u8; 16];
     let n = os::arg(i, &mut room);
@@ -22,142 +39,286 @@ fn word(i: usize) -> usize {
         b"walk
 check
 header
-resume
 tidy
+resume
+record
+body
 help
--h
+--version
 --help
+--json
+--status
+--fields
+--quirks
 status
+fields
 quirks
+-h
 ",
         texts::front(&room, n),
     )
 }
 
-// Help, to standard error where something else was asked.
-fn help(fd: i32) -> u64 {
-    io::write_all(
-        fd,
-        b"warc walk FILE                      lists the records: start, body offset, length, type, date, target URI
-warc check FILE                     says where and why a file stops, and how many records were good
-warc header FILE [status] [quirks]  shows a header block: status, fields with their places, clean, tidy, grammatical
-warc resume FIRST SECOND            says whether the second HTTP answer's body may be appended to the first's
-warc tidy FILE [status] [quirks]    writes the rebuilt header block
-
-FILE is a path, or - for standard input.
-",
-    );
-    inputs::GOOD
+// What an argument that is no word is.
+fn name(i: usize) -> usize {
+    let mut room = [0u8; 2];
+    let n = os::arg(i, &mut room);
+    if room[0] == b'-' {
+        if n == 1 {
+            return STANDARD;
+        }
+        return STRANGE;
+    }
+    FILE
 }
 
-fn misused() -> u64 {
-    io::write_all(
-        libc::STDERR_FILENO,
-        b"warc: there is no such command, or these are not its arguments\n\n",
-    );
-    help(libc::STDERR_FILENO);
-    inputs::UNREAD
+// A word without dashes is an option where a header block is asked for.
+fn bare(command: usize, option: usize) -> usize {
+    match command {
+        helps::HEADER | helps::TIDY => option,
+        _ => FILE,
+    }
 }
 
-fn is_option(word: usize) -> bool {
-    match word {
-        STATUS | QUIRKS => true,
+// What argument i is to a command.
+fn kind(command: usize, i: usize) -> usize {
+    match word(i) {
+        HELP | 17 => HELP,
+        JSON => JSON,
+        STATUS => STATUS,
+        FIELDS => FIELDS,
+        QUIRKS => QUIRKS,
+        14 => bare(command, STATUS),
+        15 => bare(command, FIELDS),
+        16 => bare(command, QUIRKS),
+        _ => name(i),
+    }
+}
+
+// How many of the arguments behind a command are of a kind.
+fn tally(command: usize, count: usize, wanted: usize) -> u64 {
+    let mut n = 0u64;
+    for i in 2..count {
+        if kind(command, i) == wanted {
+            n = std::num::wrapping_add_u64(n, 1);
+        }
+    }
+    n
+}
+
+// How many arguments of each kind there are.
+struct Asked {
+    files: u64,
+    standard: u64,
+    strange: u64,
+    json: u64,
+    status: u64,
+    fields: u64,
+    quirks: u64,
+}
+
+fn asked_of(command: usize, count: usize) -> Asked {
+    Asked {
+        files: tally(command, count, FILE),
+        standard: tally(command, count, STANDARD),
+        strange: tally(command, count, STRANGE),
+        json: tally(command, count, JSON),
+        status: tally(command, count, STATUS),
+        fields: tally(command, count, FIELDS),
+        quirks: tally(command, count, QUIRKS),
+    }
+}
+
+fn sum(a: u64, b: u64) -> u64 {
+    std::num::wrapping_add_u64(a, b)
+}
+
+// How many arguments a command has no use for.
+fn excess(command: usize, a: Asked) -> u64 {
+    let told = sum(sum(a.status, a.fields), a.quirks);
+    match command {
+        helps::WALK => sum(a.strange, told),
+        helps::HEADER | helps::TIDY => sum(a.strange, a.json),
+        _ => sum(sum(a.strange, a.json), told),
+    }
+}
+
+// Whether a command takes that many files; a start counts as one.
+fn takes(command: usize, files: u64) -> bool {
+    match command {
+        helps::WALK | helps::CHECK | helps::HEADER | helps::TIDY => files > 0,
+        helps::RESUME | helps::RECORD | helps::BODY => files == 2,
         _ => false,
     }
 }
 
-// Whether what stands behind a file's name is options.
-fn are_options(count: usize, one: usize, two: usize) -> bool {
-    match count {
-        3 => true,
-        4 => is_option(one),
-        5 => {
-            if is_option(one) {
-                return is_option(two);
+// Whether a command has the arguments that it wants: standard input holds one file, and a first line is one thing.
+fn is_right(command: usize, a: Asked) -> bool {
+    if excess(command, a) > 0 {
+        return false;
+    }
+    if a.standard > 1 {
+        return false;
+    }
+    if a.status > 0 {
+        if a.fields > 0 {
+            return false;
+        }
+    }
+    takes(command, sum(a.files, a.standard))
+}
+
+fn misused(command: usize) -> u64 {
+    if command < PROGRAM {
+        out::text(
+            libc::STDERR_FILENO,
+            b"warc: these are not the command's arguments\n\n",
+        );
+    } else {
+        out::text(libc::STDERR_FILENO, b"warc: there is no such command\n\n");
+    }
+    helps::help(libc::STDERR_FILENO, command);
+    inputs::UNREAD
+}
+
+// What is done with the records of a file that is walked over.
+fn manner(command: usize, json: u64) -> u64 {
+    match command {
+        helps::CHECK => walks::COUNT,
+        _ => {
+            if json > 0 {
+                return walks::DESCRIBE;
             }
-            false
-        }
-        _ => false,
-    }
-}
-
-fn is_either(one: usize, two: usize, wanted: usize) -> bool {
-    if one == wanted {
-        return true;
-    }
-    two == wanted
-}
-
-// Whether a command has the arguments that it wants.
-fn is_right(command: usize, count: usize, one: usize, two: usize) -> bool {
-    match command {
-        0 | 1 => count == 3,
-        2 | 4 => are_options(count, one, two),
-        3 => count == 4,
-        _ => false,
-    }
-}
-
-// Standard input holds one file.
-fn resume(first: &[u8], second: &[u8]) -> u64 {
-    if inputs::is_standard(first) {
-        if inputs::is_standard(second) {
-            return misused();
+            walks::LIST
         }
     }
-    blocks::resume(first, second)
 }
 
-fn act(command: usize, first: &[u8], second: &[u8], status: bool, quirks: bool) -> u64 {
+// How a block's first line is read.
+fn first_line(a: Asked) -> u64 {
+    if a.status > 0 {
+        return blocks::IS_STATUS;
+    }
+    if a.fields > 0 {
+        return blocks::IS_FIELD;
+    }
+    blocks::TELLS
+}
+
+// A command on one of its files.
+fn act(command: usize, path: &[u8], a: Asked, several: bool) -> u64 {
+    let first = first_line(a);
+    let quirks = a.quirks > 0;
     match command {
-        0 => walks::walk(first, true),
-        1 => walks::walk(first, false),
-        2 => blocks::header(first, status, quirks, false),
-        3 => resume(first, second),
-        _ => blocks::header(first, status, quirks, true),
+        helps::HEADER => blocks::header(path, several, first, quirks),
+        helps::TIDY => blocks::tidy(path, first, quirks),
+        _ => walks::walk(path, several, manner(command, a.json), 0),
     }
 }
 
-fn unnamed() -> u64 {
-    os::fail(b"FILE");
+// A name that is too long to be one.
+fn unnamed(path: &[u8]) -> u64 {
+    inputs::fail(texts::front(path, 64));
     inputs::UNREAD
 }
 
-// A command with its files and options: arguments 2 and 3 are the files, 3 and 4 the options.
-fn with_files(command: usize, one: usize, two: usize) -> u64 {
+// Argument i, which is a file or an option.
+fn on_argument(command: usize, i: usize, a: Asked, several: bool) -> u64 {
+    let mut path = [0u8; 4096];
+    match kind(command, i) {
+        FILE | STANDARD => {
+            let n = os::arg(i, &mut path);
+            if os::errno() != 0 {
+                return unnamed(&path);
+            }
+            act(command, texts::front(&path, n), a, several)
+        }
+        _ => inputs::GOOD,
+    }
+}
+
+fn worse(a: u64, b: u64) -> u64 {
+    if a < b {
+        return b;
+    }
+    a
+}
+
+// A command on each of its files.
+fn on_each(command: usize, count: usize, a: Asked) -> u64 {
+    let several = sum(a.files, a.standard) > 1;
+    let mut status = inputs::GOOD;
+    for i in 2..count {
+        status = worse(status, on_argument(command, i, a, several));
+    }
+    status
+}
+
+// A command on the record at a start.
+fn at_start(command: usize, path: &[u8], start: &[u8]) -> u64 {
+    let from = texts::decimal(start);
+    if from == texts::NONE {
+        return misused(command);
+    }
+    match command {
+        helps::RECORD => walks::walk(path, false, walks::SHOW, from),
+        _ => walks::walk(path, false, walks::WRITE, from),
+    }
+}
+
+// A command on two arguments.
+fn on_two(command: usize) -> u64 {
     let mut first = [0u8; 4096];
     let mut second = [0u8; 4096];
-    let k = os::arg(3, &mut second);
     let n = os::arg(2, &mut first);
     if os::errno() != 0 {
-        return unnamed();
+        return unnamed(&first);
     }
-    act(
-        command,
-        texts::front(&first, n),
-        texts::front(&second, k),
-        is_either(one, two, STATUS),
-        is_either(one, two, QUIRKS),
-    )
+    let k = os::arg(3, &mut second);
+    if os::errno() != 0 {
+        return unnamed(&second);
+    }
+    match command {
+        helps::RESUME => blocks::resume(texts::front(&first, n), texts::front(&second, k)),
+        _ => at_start(command, texts::front(&first, n), texts::front(&second, k)),
+    }
+}
+
+fn right(command: usize, count: usize, a: Asked) -> u64 {
+    match command {
+        helps::RESUME | helps::RECORD | helps::BODY => on_two(command),
+        _ => on_each(command, count, a),
+    }
+}
+
+fn with_arguments(command: usize, count: usize) -> u64 {
+    let a = asked_of(command, count);
+    if is_right(command, a) {
+        return right(command, count, a);
+    }
+    misused(command)
 }
 
 // Without arguments: the help, and a walk of the sample.
 fn sample() -> u64 {
-    help(libc::STDOUT_FILENO);
-    io::write_all(libc::STDOUT_FILENO, b"\nwarc walk sample.warc:\n");
-    walks::walk(b"sample.warc", true)
+    helps::help(libc::STDOUT_FILENO, PROGRAM);
+    out::text(libc::STDOUT_FILENO, b"\nwarc walk sample.warc:\n");
+    walks::walk(b"sample.warc", false, walks::LIST, 0)
+}
+
+fn version() -> u64 {
+    out::text(libc::STDOUT_FILENO, b"warc (bisquecrow) 1.0.0\n")
 }
 
 fn command(count: usize) -> u64 {
     let command = word(1);
-    let one = word(3);
-    let two = word(4);
-    if is_right(command, count, one, two) {
-        return with_files(command, one, two);
+    if tally(command, count, HELP) > 0 {
+        return helps::help(libc::STDOUT_FILENO, command);
     }
     match command {
-        5 | 6 | 7 => help(libc::STDOUT_FILENO),
-        _ => misused(),
+        PROGRAM | HELP | 17 => helps::help(libc::STDOUT_FILENO, word(2)),
+        VERSION => version(),
+        _ => with_arguments(command, count),
     }
 }
 

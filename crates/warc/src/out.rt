@@ -11,13 +11,29 @@ pub fn front<'a>(said: &'a [u8; 65536], at: usize) -> &'a [u8] {
     texts::front(said, at)
 }
 
-// Writes what stands before a place. Where that fails, why is said.
+// Writes octets at once; where that fails, why is said.
+pub fn send(fd: i32, s: &[u8]) -> bool {
+    if io::write_all(fd, s) {
+        return true;
+    }
+    os::fail(b"standard output");
+    false
+}
+
+// Writes a text at once; the status is 1 where that fails.
+pub fn text(fd: i32, s: &[u8]) -> u64 {
+    match send(fd, s) {
+        true => 0,
+        false => 1,
+    }
+}
+
+// Writes what stands before a place.
 pub fn flush(fd: i32, said: &[u8; 65536], at: usize) -> usize {
     if at <= ROOM {
-        if io::write_all(fd, front(said, at)) {
+        if send(fd, front(said, at)) {
             return 0;
         }
-        os::fail(b"standard output");
         return FAILED;
     }
     at
@@ -46,33 +62,72 @@ fn glyph(d: u8) -> u8 {
     b'?'
 }
 
-// An octet as %XX.
+// An octet as two hexadecimal digits.
 fn hex(said: &mut [u8; 65536], at: usize, x: u8) -> usize {
-    let a = octet(said, at, b'%');
-    let b = octet(said, a, glyph(x / 16));
-    octet(said, b, glyph(x % 16))
+    let next = octet(said, at, glyph(x / 16));
+    octet(said, next, glyph(x % 16))
 }
 
-fn is_within(x: u8, least: u8) -> bool {
-    if x >= least {
-        return x <= b'~';
-    }
-    false
-}
-
-// An octet as it is from least to `~`, else as %XX.
-fn shown(said: &mut [u8; 65536], at: usize, x: u8, least: u8) -> usize {
-    match is_within(x, least) {
-        true => octet(said, at, x),
-        false => hex(said, at, x),
-    }
-}
-
-pub fn octets(said: &mut [u8; 65536], at: usize, s: &[u8], least: u8) -> usize {
+// Words as they are.
+pub fn words(said: &mut [u8; 65536], at: usize, s: &[u8]) -> usize {
     let mut at = at;
     for i in 0..s.len() {
         let x = s[i];
-        at = shown(said, at, x, least);
+        at = octet(said, at, x);
+    }
+    at
+}
+
+// How octets are shown.
+pub const TEXT: u8 = 0;
+
+pub const COLUMN: u8 = 1;
+
+pub const STRING: u8 = 2;
+
+fn is_visible(x: u8) -> bool {
+    match x {
+        b'!'..=b'~' => true,
+        _ => false,
+    }
+}
+
+// Whether an octet stands for itself: in a text a space does, in a column all that can be seen but %, in a string of JSON all but its own two signs.
+fn is_plain(x: u8, manner: u8) -> bool {
+    match x {
+        b' ' => manner != COLUMN,
+        b'%' => manner != COLUMN,
+        b'"' | b'\\' => manner != STRING,
+        _ => is_visible(x),
+    }
+}
+
+// An octet that does not stand for itself.
+fn escaped(said: &mut [u8; 65536], at: usize, x: u8, manner: u8) -> usize {
+    match manner {
+        STRING => {
+            let next = words(said, at, b"\\u00");
+            hex(said, next, x)
+        }
+        _ => {
+            let next = octet(said, at, b'%');
+            hex(said, next, x)
+        }
+    }
+}
+
+fn shown(said: &mut [u8; 65536], at: usize, x: u8, manner: u8) -> usize {
+    match is_plain(x, manner) {
+        true => octet(said, at, x),
+        false => escaped(said, at, x, manner),
+    }
+}
+
+pub fn octets(said: &mut [u8; 65536], at: usize, s: &[u8], manner: u8) -> usize {
+    let mut at = at;
+    for i in 0..s.len() {
+        let x = s[i];
+        at = shown(said, at, x, manner);
     }
     at
 }
@@ -80,5 +135,5 @@ pub fn octets(said: &mut [u8; 65536], at: usize, s: &[u8], least: u8) -> usize {
 pub fn decimal(said: &mut [u8; 65536], at: usize, n: u64) -> usize {
     let mut digits = [0u8; 20];
     let k = io::decimal(n, &mut digits);
-    octets(said, at, &digits[..k], b'0')
+    words(said, at, &digits[..k])
 }

@@ -49,3 +49,46 @@ pub fn number(text: &[u8], word: &[u8]) -> usize {
     }
     here
 }
+
+// No number.
+pub const NONE: u64 = 18446744073709551615;
+
+// A number of up to 18 digits; NONE for another text.
+pub fn decimal(s: &[u8]) -> u64 {
+    let mut n = 0u64;
+    if s.len() == 0 {
+        return NONE;
+    }
+    for i in 0..s.len() {
+        n = behind(n, s[i]);
+    }
+    n
+}
+
+// What a digit behind a number makes of it.
+fn behind(n: u64, x: u8) -> u64 {
+    if n < 100000000000000000 {
+        if x >= 48 {
+            if x <= 57 {
+                let d = x - 48;
+                return n * 10 + d as u64;
+            }
+        }
+    }
+    NONE
+}
+
+// Whether a text begins with a word.
+pub fn begins(s: &[u8], word: &[u8]) -> bool {
+    equals::same_octets(front(s, word.len()), word)
+}
+
+// Whether the first line of a text ends in LF alone.
+pub fn is_lf_alone(s: &[u8]) -> bool {
+    let first = line(s, 0);
+    let n = first.len();
+    if n > 0 {
+        return first[n - 1] != b'\r';
+    }
+    false
+}

@@ -1,7 +1,20 @@
-// The records of a file: listed, or counted up to where the file stops.
+// The records of a file: listed, or counted up to where the file stops; of one of them its header or its body.
+use crate::blocks;
 use crate::forms;
 use crate::inputs;
 use crate::out;
+use crate::texts;
+
+// What is done with the records: they are counted, listed in columns, described in JSON; the first is shown, or its body is written.
+pub const COUNT: u64 = 0;
+
+pub const LIST: u64 = 1;
+
+pub const DESCRIBE: u64 = 2;
+
+pub const SHOW: u64 = 3;
+
+pub const WRITE: u64 = 4;
 
 // Answers of the walker and of a lookup.
 const MORE: u32 = 64;
@@ -12,6 +25,8 @@ const IN_STORE: u32 = 72;
 
 const RECORD: u32 = 73;
 
+const BODY: u32 = 74;
+
 const END: u64 = 75;
 
 // Stages of the walker.
@@ -19,10 +34,13 @@ const BETWEEN: u64 = 0;
 
 const ENDED: u64 = 7;
 
-// A file also ends where it cannot be read, or where its list cannot be written: no piece is as long, no answer as large.
+// A walk also ends where the file cannot be read, where something cannot be written, or where the record that was asked for was done with:
+// no piece is as long, no answer as large.
 const UNREAD: u64 = inputs::FAILED;
 
 const UNWRITTEN: u64 = 18446744073709551614;
+
+const ENOUGH: u64 = 18446744073709551613;
 
 // A line of progress for every 256 MiB.
 const STRIDE: u64 = 268435456;
@@ -33,11 +51,13 @@ fn say_progress(good: u64, position: u64) {
     out::flush(libc::STDERR_FILENO, &said, at);
 }
 
-// Says on standard error how far a long file is walked over, where the last piece passed a stride.
+// Says on a terminal how far a long file is walked over, where the last piece passed a stride.
 fn progress(good: u64, position: u64, piece: u64) {
     if position % STRIDE < piece {
         if position >= STRIDE {
-            say_progress(good, position);
+            if libc::isatty(libc::STDERR_FILENO) == 1 {
+                say_progress(good, position);
+            }
         }
     }
 }
@@ -87,9 +107,30 @@ fn nth(record: &[u64; 4], i: usize) -> u64 {
     0
 }
 
-fn list_record<'a>(
+// What stands before the form of a record that is listed or described.
+fn open_line(said: &mut [u8; 65536], at: usize, manner: u64, path: &[u8]) -> usize {
+    match manner {
+        DESCRIBE => {
+            let next = out::words(said, at, b"{\"file\":");
+            forms::string(said, next, path)
+        }
+        _ => at,
+    }
+}
+
+// The form of a record that is listed or described.
+fn line_form(manner: u64) -> usize {
+    match manner {
+        DESCRIBE => forms::DESCRIBED,
+        _ => forms::LISTED,
+    }
+}
+
+// A record's line: start, body offset, length, type, date, target URI.
+fn list<'a>(
     said: &mut [u8; 65536],
     at: usize,
+    form: usize,
     record: &[u64; 4],
     head: &[u64; 13],
     table: &[u32; 1024],
@@ -108,27 +149,75 @@ fn list_record<'a>(
         uri.from,
         uri.to,
     ];
-    forms::say(said, at, forms::LISTED, &numbers, block, store)
+    forms::say(said, at, form, &numbers, block, store)
 }
 
-// The line of a record that begins, if it is to be listed: start, body offset, length, type, date, target URI.
-fn list<'a>(
+// A record's numbers and its header.
+fn show<'a>(
     said: &mut [u8; 65536],
-    at: usize,
-    listed: bool,
-    answer: u32,
     record: &[u64; 4],
     head: &[u64; 13],
     table: &[u32; 1024],
     block: &'a [u8; 32768],
     store: &'a [u8; 32768],
 ) -> usize {
-    if listed {
-        if answer == RECORD {
-            return list_record(said, at, record, head, table, block, store);
+    let at = forms::tell(
+        said,
+        forms::RECORD,
+        nth(record, 0),
+        nth(record, 1),
+        nth(record, 2),
+        nth(record, 3),
+    );
+    blocks::map(said, at, head, table, block, store)
+}
+
+// What is said of a record that begins.
+fn tell<'a>(
+    said: &mut [u8; 65536],
+    at: usize,
+    manner: u64,
+    answer: u32,
+    path: &[u8],
+    record: &[u64; 4],
+    head: &[u64; 13],
+    table: &[u32; 1024],
+    block: &'a [u8; 32768],
+    store: &'a [u8; 32768],
+) -> usize {
+    if answer != RECORD {
+        return at;
+    }
+    match manner {
+        LIST | DESCRIBE => {
+            let next = open_line(said, at, manner, path);
+            list(
+                said,
+                next,
+                line_form(manner),
+                record,
+                head,
+                table,
+                block,
+                store,
+            )
+        }
+        SHOW => show(said, record, head, table, block, store),
+        _ => at,
+    }
+}
+
+// Writes a part of a body where that is asked for. Answers how far the piece goes, or UNWRITTEN.
+fn write(manner: u64, answer: u32, part: &[u8], to: u64) -> u64 {
+    if manner == WRITE {
+        if answer == BODY {
+            if out::send(libc::STDOUT_FILENO, part) {
+                return to;
+            }
+            return UNWRITTEN;
         }
     }
-    at
+    to
 }
 
 // How many records a call of the walker ended: the answer MORE is a record's end where the walker stands between records.
@@ -141,48 +230,32 @@ fn passed(answer: u32, trail: &[u64; 4]) -> u64 {
     0
 }
 
-// Says how a file ends.
-fn say_ending(said: &mut [u8; 65536], how: u64, good: u64, position: u64, whole: u64) -> usize {
-    match how {
-        END => forms::tell(said, forms::GOOD, good, position, 0, 0),
-        UNREAD => forms::tell(said, forms::UNREADABLE, position, good, whole, 0),
-        UNWRITTEN => 0,
-        _ => forms::tell(said, forms::STOPPED, position, how, good, whole),
+// Whether what was asked for is done.
+fn is_enough(manner: u64, answer: u32, good: u64) -> bool {
+    match manner {
+        SHOW => answer == RECORD,
+        WRITE => good > 0,
+        _ => false,
     }
 }
 
-fn is_packed(block: &[u8; 32768]) -> bool {
-    if block[0] == 0x1f {
-        return block[1] == 0x8b;
+fn is_over(manner: u64, answer: u32, good: u64) -> bool {
+    if answer < MORE {
+        return true;
     }
-    false
+    is_enough(manner, answer, good)
 }
 
-// Says so where a file begins as one packed by gzip does.
-fn hint(good: u64, block: &[u8; 32768]) {
-    if good == 0 {
-        if is_packed(block) {
-            io::write_all(
-                libc::STDERR_FILENO,
-                b"the file begins as gzip does: unpack it first, as by `gzip -dc FILE | warc check -`\n",
-            );
-        }
-    }
-}
-
-fn status(how: u64, listed: usize, told: usize) -> u64 {
-    match how {
-        END => inputs::written(std::num::wrapping_add_usize(listed, told)),
-        UNREAD => inputs::UNREAD,
-        _ => inputs::BAD,
-    }
-}
-
-// How the walk ended: as the walker says, unless a read or a write failed, of which it was not told.
-fn how(to: u64, answer: u32) -> u64 {
+// How the walk ended: as the walker says, unless it was not told.
+fn how(manner: u64, last: u32, good: u64, to: u64, answer: u32) -> u64 {
     match to {
         UNREAD | UNWRITTEN => to,
-        _ => answer as u64,
+        _ => {
+            if is_enough(manner, last, good) {
+                return ENOUGH;
+            }
+            answer as u64
+        }
     }
 }
 
@@ -194,30 +267,133 @@ fn whole(trail: &[u64; 4]) -> u64 {
     trail[2]
 }
 
-// Behind a listing, what is told goes to standard error.
-fn target(listed: bool) -> i32 {
-    if listed {
-        return libc::STDERR_FILENO;
+// The name of a file that is one of several, before what is said of it.
+fn say_name(said: &mut [u8; 65536], several: bool, path: &[u8]) -> usize {
+    match several {
+        true => {
+            let at = out::octets(said, 0, path, out::TEXT);
+            out::words(said, at, b": ")
+        }
+        false => 0,
     }
-    libc::STDOUT_FILENO
 }
 
-// Says how the file ends.
+fn say(said: &mut [u8; 65536], at: usize, form: usize, a: u64, b: u64, c: u64, d: u64) -> usize {
+    forms::say(said, at, form, &[a, b, c, d], b"", b"")
+}
+
+// Says how a file ends.
+fn say_ending(
+    said: &mut [u8; 65536],
+    at: usize,
+    how: u64,
+    good: u64,
+    position: u64,
+    whole: u64,
+) -> usize {
+    match how {
+        END => say(said, at, forms::GOOD, good, position, 0, 0),
+        UNREAD => say(said, at, forms::UNREADABLE, position, good, whole, 0),
+        UNWRITTEN => 0,
+        _ => say(said, at, forms::STOPPED, position, how, good, whole),
+    }
+}
+
+// Says what is amiss with the one record that was asked for.
+fn say_failure(said: &mut [u8; 65536], how: u64, position: u64) -> usize {
+    match how {
+        END => say(said, 0, forms::NO_RECORD, position, 0, 0, 0),
+        UNREAD | UNWRITTEN | ENOUGH => 0,
+        _ => say(said, 0, forms::BROKEN, position, how, 0, 0),
+    }
+}
+
+// Behind a listing, what is told goes to standard error.
+fn target(manner: u64) -> i32 {
+    match manner {
+        COUNT => libc::STDOUT_FILENO,
+        _ => libc::STDERR_FILENO,
+    }
+}
+
+fn status(how: u64, written: usize) -> u64 {
+    match how {
+        END | ENOUGH => inputs::written(written),
+        UNREAD => inputs::UNREAD,
+        _ => inputs::BAD,
+    }
+}
+
+// Whether a file ends where a record was asked for.
+fn lacks(manner: u64, how: u64) -> bool {
+    match manner {
+        SHOW | WRITE => how == END,
+        _ => false,
+    }
+}
+
+// Writes what was said of the records, and says how the file ends.
 fn conclude(
     said: &mut [u8; 65536],
     at: usize,
-    block: &[u8; 32768],
-    listed: bool,
+    path: &[u8],
+    several: bool,
+    manner: u64,
     how: u64,
     good: u64,
     position: u64,
     whole: u64,
 ) -> u64 {
     let first = out::flush(libc::STDOUT_FILENO, said, at);
-    let n = say_ending(said, how, good, position, whole);
-    let second = out::flush(target(listed), said, n);
-    hint(good, block);
-    status(how, first, second)
+    let n = match manner {
+        SHOW | WRITE => say_failure(said, how, position),
+        _ => {
+            let behind = say_name(said, several, path);
+            say_ending(said, behind, how, good, position, whole)
+        }
+    };
+    let second = out::flush(target(manner), said, n);
+    if lacks(manner, how) {
+        return inputs::BAD;
+    }
+    status(how, std::num::wrapping_add_usize(first, second))
+}
+
+fn is_packed(block: &[u8; 32768]) -> bool {
+    if block[0] == 0x1f {
+        return block[1] == 0x8b;
+    }
+    false
+}
+
+// What a person may have done whose file does not begin as a WARC file does.
+fn guess(manner: u64) -> usize {
+    match manner {
+        SHOW | WRITE => forms::NO_START,
+        _ => forms::NO_WARC,
+    }
+}
+
+// The form that may help where the first record is not good.
+fn hint(manner: u64, block: &[u8; 32768]) -> usize {
+    if is_packed(block) {
+        return forms::PACKED;
+    }
+    if texts::begins(block, b"WARC/") {
+        if texts::is_lf_alone(block) {
+            return forms::LF_ALONE;
+        }
+        return forms::NOTHING;
+    }
+    guess(manner)
+}
+
+fn say_hint(path: &[u8], manner: u64, how: u64, good: u64, block: &[u8; 32768]) {
+    if how < END {
+        if good == 0 {
+            inputs::remark(hint(manner, block), path, 0);
+        }
+    }
 }
 
 // Tells the walker of the end: one that has stopped repeats its answer.
@@ -227,22 +403,19 @@ fn end(
     table: &[u32; 1024],
     block: &[u8; 32768],
     store: &[u8; 32768],
-    to: u64,
-) -> u64 {
-    how(
-        to,
-        abi::walking::bisquecrow_end(trail, head, table, block, store),
-    )
+) -> u32 {
+    abi::walking::bisquecrow_end(trail, head, table, block, store)
 }
 
 fn start(
     trail: &mut [u64; 4],
     head: &mut [u64; 13],
     table: &[u32; 1024],
+    position: u64,
     block: &[u8; 32768],
     store: &[u8; 32768],
 ) {
-    abi::walking::bisquecrow_walker(trail, head, table, 32768, 0, block, store);
+    abi::walking::bisquecrow_walker(trail, head, table, 32768, position, block, store);
 }
 
 fn step(
@@ -276,7 +449,7 @@ fn fill(
     UNWRITTEN
 }
 
-fn is_over(to: u64) -> bool {
+fn is_last(to: u64) -> bool {
     match to {
         0 | UNREAD | UNWRITTEN => true,
         _ => false,
@@ -284,7 +457,7 @@ fn is_over(to: u64) -> bool {
 }
 
 // Every call of the walker, and what it leaves. Of the piece that was read, the octets from `from` before `to` are not walked over yet.
-fn walk_over(fd: i32, path: &[u8], listed: bool) -> u64 {
+fn walk_over(fd: i32, path: &[u8], several: bool, manner: u64, position: u64) -> u64 {
     let mut typed = [0u8; 262144];
     let mut said = [0u8; 65536];
     let mut trail = [0u64; 4];
@@ -298,17 +471,18 @@ fn walk_over(fd: i32, path: &[u8], listed: bool) -> u64 {
     let mut to = 0u64;
     let mut at = 0;
     let mut good = 0u64;
-    start(&mut trail, &mut head, &table, &block, &store);
+    let mut answer = MORE;
+    start(&mut trail, &mut head, &table, position, &block, &store);
     for _ in 0..inputs::TURNS {
         if from == to {
             to = fill(fd, path, &mut typed, &said, at, good, &trail, to);
             from = 0;
             at = 0;
         }
-        if is_over(to) {
+        if is_last(to) {
             break;
         }
-        let answer = step(
+        answer = step(
             &mut trail,
             &mut head,
             &mut table,
@@ -318,43 +492,62 @@ fn walk_over(fd: i32, path: &[u8], listed: bool) -> u64 {
             &mut taken,
             &mut record,
         );
-        from = std::num::wrapping_add_u64(from, taken);
+        let behind = std::num::wrapping_add_u64(from, taken);
+        to = write(manner, answer, inputs::piece(&typed, from, behind), to);
+        from = behind;
         good = std::num::wrapping_add_u64(good, passed(answer, &trail));
-        at = list(
+        at = tell(
             &mut said,
             at,
-            listed,
+            manner,
             answer,
+            path,
             &record,
             &head,
             &table,
             &block,
             &store,
         );
-        if answer < MORE {
+        if is_over(manner, answer, good) {
             break;
         }
     }
-    let how = end(&mut trail, &mut head, &table, &block, &store, to);
-    conclude(
+    let ended = end(&mut trail, &mut head, &table, &block, &store);
+    let how = how(manner, answer, good, to, ended);
+    let status = conclude(
         &mut said,
         at,
-        &block,
-        listed,
+        path,
+        several,
+        manner,
         how,
         good,
         trail[0],
         whole(&trail),
-    )
+    );
+    say_hint(path, manner, how, good, &block);
+    status
 }
 
-// Walks over a file, listing its records or not, and says how it ends.
-pub fn walk(path: &[u8], listed: bool) -> u64 {
+// The line before the list of a file that is one of several.
+fn headline(path: &[u8], several: bool, manner: u64) -> u64 {
+    match manner {
+        LIST => inputs::headline(path, several),
+        _ => inputs::GOOD,
+    }
+}
+
+// Walks over a file from a position on, and says how it ends.
+pub fn walk(path: &[u8], several: bool, manner: u64, position: u64) -> u64 {
     let fd = inputs::open(path);
     if fd < 0 {
         return inputs::UNREAD;
     }
-    let status = walk_over(fd, path, listed);
+    if position > 0 {
+        inputs::seek(fd, position);
+    }
+    headline(path, several, manner);
+    let status = walk_over(fd, path, several, manner, position);
     inputs::close(fd);
     status
 }

@@ -2,7 +2,7 @@
 use borrow.Author.Needs.{needs}
 use mathlib.Core.Path.{refl, sym, ap, _∙_}
 use Rattle.leaves.specs.Octets.{before}
-use Rattle.line_reader.proofs.HandlingLaws.{fold-ready, slot-few, is-handled, line-cut, closing-blank, closing-on}
+use Rattle.line_reader.proofs.HandlingLaws.{fold-ready, slot-few, is-handled, line-cut, ended-blank, ended-on}
 use Rattle.line_reader.proofs.close_line.Statement.{statement}
 use Rattle.line_reader.proofs.close_line.Tie as tie
 
@@ -26,7 +26,7 @@ handled-of-requires c κs = search needs
 
 returns : tie.Need-returns
 returns c =
-    rw (closing-blank (c .before .before .before .before .before .before .before .pre .0) _ (sym (c .before .before .ends-block .ensures) ∙ c .before .if1 .taken))
+    rw (ended-blank (c .before .before .before .before .before .before .before .pre .0) _ (sym (c .before .before .ends-block .ensures) ∙ c .before .if1 .taken))
     (record { result = c .handled-of .ensures; block = refl; store = refl })
 
 colon-of-requires : tie.Need-colon-of-requires
@@ -46,7 +46,7 @@ same-length c = search needs
 returns-2 : tie.Need-returns-2
 returns-2 c =
     let able = c .before .before .before .before .before .before .before .before .before .before .before .before .pre .0 in
-    rw (closing-on able _ (sym (c .before .before .before .before .before .before .before .ends-block .ensures) ∙ c .before .before .before .before .before .before .if1 .left))
+    rw (ended-on able _ (sym (c .before .before .before .before .before .before .before .ends-block .ensures) ∙ c .before .before .before .before .before .before .if1 .left))
     (is-handled able _ _ _ (c .before .before .before .line-change .ensures) (c .handled-by .ensures))
 
 pub close-line-spec : {M : Type 1} → statement M

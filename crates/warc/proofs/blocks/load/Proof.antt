@@ -5,13 +5,22 @@ use Rattle.warc.proofs.blocks.load.Statement.{statement}
 use Rattle.warc.proofs.blocks.load.Tie as tie
 
 abbrev Inv-loop : tie.InvT-loop
-Inv-loop path status quirks head₀ table₀ block₀ store₀ typed₀ taken₀ all₀ n₀ answer₀ fd counter₀ head table block store typed taken all n answer counter = Unit {0}
+Inv-loop path first quirks head₀ table₀ block₀ store₀ typed₀ taken₀ all₀ answer₀ fd n₀ status counter₀ head table block store typed taken all answer n counter = Unit {0}
 
 abbrev μ-loop : tie.MeasureT-loop
-μ-loop path status quirks head₀ table₀ block₀ store₀ typed₀ taken₀ all₀ n₀ answer₀ fd counter₀ head table block store typed taken all n answer counter = 18446744073709551615 - counter
+μ-loop path first quirks head₀ table₀ block₀ store₀ typed₀ taken₀ all₀ answer₀ fd n₀ status counter₀ head table block store typed taken all answer n counter = 18446744073709551615 - counter
 
 open-requires : tie.Need-open-requires Inv-loop μ-loop
 open-requires c κs = search needs
+
+read-first-requires : tie.Need-read-first-requires Inv-loop μ-loop
+read-first-requires c κs = search needs
+
+piece-requires : tie.Need-piece-requires Inv-loop μ-loop
+piece-requires c κs = search needs
+
+awaits-requires : tie.Need-awaits-requires Inv-loop μ-loop
+awaits-requires c κs = search needs
 
 begin-requires : tie.Need-begin-requires Inv-loop μ-loop
 begin-requires c κs = search needs
@@ -19,20 +28,20 @@ begin-requires c κs = search needs
 loop-holds : tie.Need-loop-holds Inv-loop μ-loop
 loop-holds c = search needs
 
-read-requires : tie.Need-read-requires Inv-loop μ-loop
-read-requires c κs = search needs
-
 is-over-requires : tie.Need-is-over-requires Inv-loop μ-loop
 is-over-requires c κs = search needs
 
-piece-requires : tie.Need-piece-requires Inv-loop μ-loop
-piece-requires c κs = search needs
+piece-requires-2 : tie.Need-piece-requires-2 Inv-loop μ-loop
+piece-requires-2 c κs = search needs
 
 feed-requires : tie.Need-feed-requires Inv-loop μ-loop
 feed-requires c κs = search needs
 
 wrapping-add-u64-requires : tie.Need-wrapping-add-u64-requires Inv-loop μ-loop
 wrapping-add-u64-requires c κs = search needs
+
+read-requires : tie.Need-read-requires Inv-loop μ-loop
+read-requires c κs = search needs
 
 add-counter : tie.Need-add-counter Inv-loop μ-loop
 add-counter c = search needs
@@ -59,13 +68,16 @@ load-spec =
     Inv-loop
     μ-loop
     open-requires
+    read-first-requires
+    piece-requires
+    awaits-requires
     begin-requires
     loop-holds
-    read-requires
     is-over-requires
-    piece-requires
+    piece-requires-2
     feed-requires
     wrapping-add-u64-requires
+    read-requires
     add-counter
     loop-less
     loop-again

@@ -5,10 +5,10 @@ use Rattle.warc.proofs.out.octets.Statement.{statement}
 use Rattle.warc.proofs.out.octets.Tie as tie
 
 abbrev Inv-loop : tie.InvT-loop
-Inv-loop said₀ at s least at₀ i₀ i-end said at' i = Unit {0}
+Inv-loop said₀ at s manner at₀ i₀ i-end said at' i = Unit {0}
 
 abbrev μ-loop : tie.MeasureT-loop
-μ-loop said₀ at s least at₀ i₀ i-end said at' i = i-end - i
+μ-loop said₀ at s manner at₀ i₀ i-end said at' i = i-end - i
 
 loop-holds : tie.Need-loop-holds Inv-loop μ-loop
 loop-holds c = search needs
