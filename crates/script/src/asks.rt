@@ -18,8 +18,8 @@ fn shown(word: u8, answer: u32) -> u32 {
 // The words that show octets of a map.
 fn of_place<'a>(
     word: u8,
-    head: &[u64],
-    table: &[u32],
+    head: &[u64; 13],
+    table: &[u32; 1024],
     block: &'a [u8],
     store: &'a [u8],
     i: usize,
@@ -36,7 +36,13 @@ fn of_place<'a>(
 }
 
 // The words that are told a number of a map, and the clean test.
-fn of_map<'a>(word: u8, head: &[u64], table: &[u32], block: &'a [u8], store: &'a [u8]) -> Told {
+fn of_map<'a>(
+    word: u8,
+    head: &[u64; 13],
+    table: &[u32; 1024],
+    block: &'a [u8],
+    store: &'a [u8],
+) -> Told {
     let mut n: u64 = 0;
     let answer = match word {
         b'h' => abi::telling::bisquecrow_status_code(head, table, block, store, &mut n),
@@ -55,8 +61,8 @@ fn found(answer: u32) -> u32 {
 }
 
 fn find<'a>(
-    head: &[u64],
-    table: &[u32],
+    head: &[u64; 13],
+    table: &[u32; 1024],
     block: &'a [u8],
     store: &'a [u8],
     name: &[u8],
@@ -96,8 +102,8 @@ fn of_octets(word: u8, numbers: [usize; 8], one: &[u8]) -> Told {
 pub fn ask<'a>(
     word: u8,
     numbers: [usize; 8],
-    head: &[u64],
-    table: &[u32],
+    head: &[u64; 13],
+    table: &[u32; 1024],
     block: &'a [u8],
     store: &'a [u8],
     one: &[u8],
@@ -118,12 +124,12 @@ pub fn ask<'a>(
 fn pair<'a>(
     t: Told,
     word: u8,
-    kept_head: &[u64],
-    kept_table: &[u32],
+    kept_head: &[u64; 13],
+    kept_table: &[u32; 1024],
     kept_block: &'a [u8],
     kept_store: &'a [u8],
-    head: &[u64],
-    table: &[u32],
+    head: &[u64; 13],
+    table: &[u32; 1024],
     block: &'a [u8],
     store: &'a [u8],
 ) -> Told {
@@ -163,8 +169,8 @@ fn sheet(answer: u32, n: usize, count: u64) -> Told {
 // Writes into an output.
 fn put<'a>(
     word: u8,
-    head: &[u64],
-    table: &[u32],
+    head: &[u64; 13],
+    table: &[u32; 1024],
     block: &'a [u8],
     store: &'a [u8],
     out: &mut [u8],
@@ -194,8 +200,8 @@ fn put<'a>(
 fn write<'a>(
     t: Told,
     word: u8,
-    head: &[u64],
-    table: &[u32],
+    head: &[u64; 13],
+    table: &[u32; 1024],
     block: &'a [u8],
     store: &'a [u8],
     out: &mut [u8],

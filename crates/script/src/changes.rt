@@ -14,9 +14,9 @@ use crate::told::Told;
 fn make(
     word: u8,
     numbers: [usize; 8],
-    trail: &mut [u64],
-    head: &mut [u64],
-    table: &[u32],
+    trail: &mut [u64; 4],
+    head: &mut [u64; 13],
+    table: &[u32; 1024],
     block: &[u8],
     store: &[u8],
 ) -> u32 {
@@ -48,8 +48,8 @@ fn make(
 // The words that edit a map, and `F`.
 fn edit(
     word: u8,
-    head: &mut [u64],
-    table: &mut [u32],
+    head: &mut [u64; 13],
+    table: &mut [u32; 1024],
     block: &[u8],
     store: &mut [u8],
     one: &[u8],
@@ -65,8 +65,8 @@ fn edit(
 }
 
 fn feed(
-    head: &mut [u64],
-    table: &mut [u32],
+    head: &mut [u64; 13],
+    table: &mut [u32; 1024],
     block: &mut [u8],
     store: &mut [u8],
     piece: &[u8],
@@ -78,9 +78,9 @@ fn feed(
 
 // One call of a walker on the rest of a piece of n octets, of which so many were walked.
 fn walk(
-    trail: &mut [u64],
-    head: &mut [u64],
-    table: &mut [u32],
+    trail: &mut [u64; 4],
+    head: &mut [u64; 13],
+    table: &mut [u32; 1024],
     block: &mut [u8],
     store: &mut [u8],
     rest: &[u8],
@@ -130,9 +130,9 @@ fn group_of(word: u8) -> u8 {
 fn act(
     word: u8,
     numbers: [usize; 8],
-    trail: &mut [u64],
-    head: &mut [u64],
-    table: &mut [u32],
+    trail: &mut [u64; 4],
+    head: &mut [u64; 13],
+    table: &mut [u32; 1024],
     block: &mut [u8],
     store: &mut [u8],
     one: &[u8],

@@ -58,7 +58,12 @@ fn put_place(table: &mut [u32], numbers: [usize; 8]) {
 }
 
 // A walker's parts are numbered from POSITION on.
-pub fn damage(numbers: [usize; 8], trail: &mut [u64], head: &mut [u64], table: &mut [u32]) -> u32 {
+pub fn damage(
+    numbers: [usize; 8],
+    trail: &mut [u64; 4],
+    head: &mut [u64; 13],
+    table: &mut [u32; 1024],
+) -> u32 {
     let i = std::num::wrapping_sub_usize(numbers[0], names::POSITION);
     put(trail, i, numbers[1]);
     put_head(head, numbers);

@@ -129,7 +129,7 @@ fn load(
         }
         n = inputs::read(fd, path, &mut typed);
     }
-    inputs::close(fd);
+    inputs::close(fd, path);
     Ended {
         answer: finish(n, answer, head, table, block, store),
         taken: all,
@@ -160,8 +160,18 @@ fn fields<'a>(
     at
 }
 
+// The key of field i.
+pub fn key<'a>(
+    table: &[u32; 1024],
+    i: usize,
+    block: &'a [u8; 32768],
+    store: &'a [u8; 32768],
+) -> &'a [u8] {
+    forms::part(block, store, entry(table, i, 0), entry(table, i, 1))
+}
+
 // The table's number j of field i.
-fn entry(table: &[u32; 1024], i: usize, j: usize) -> u64 {
+pub fn entry(table: &[u32; 1024], i: usize, j: usize) -> u64 {
     if i < 256 {
         if j < 4 {
             let k = i * 4 + j;
@@ -272,10 +282,11 @@ pub fn map<'a>(
     fields(said, next, head[5], table, block, store)
 }
 
-// The status of a block that was shown or written.
-fn closed(answer: u32, next: usize) -> u64 {
+// The status of a block: good is one that its blank line ended.
+fn closed(answer: u32) -> u64 {
     match answer {
-        BLANK => inputs::written(next),
+        0 => inputs::UNREAD,
+        BLANK => inputs::GOOD,
         _ => inputs::BAD,
     }
 }
@@ -294,8 +305,10 @@ fn show<'a>(
     let mut said = [0u8; 65536];
     let a = say_ending(&mut said, answer, taken);
     if answer < MORE {
-        out::flush(libc::STDOUT_FILENO, &said, a);
-        return inputs::BAD;
+        return inputs::worse(
+            inputs::BAD,
+            inputs::written(out::flush(libc::STDOUT_FILENO, &said, a)),
+        );
     }
     let b = map(&mut said, a, head, table, block, store);
     let clean = abi::telling::bisquecrow_clean(head, table, block, store);
@@ -307,16 +320,99 @@ fn show<'a>(
         status,
         quirks,
     );
-    closed(answer, out::flush(libc::STDOUT_FILENO, &said, c))
+    inputs::worse(
+        closed(answer),
+        inputs::written(out::flush(libc::STDOUT_FILENO, &said, c)),
+    )
 }
 
-// Says so where a block did not end that would have, had its lines ended otherwise.
-fn hint(path: &[u8], answer: u32, quirks: bool, block: &[u8; 32768]) {
-    if answer != BLANK {
-        if !quirks {
-            if texts::is_lf_alone(block) {
-                inputs::remark(forms::LF_HEADER, path, 0);
-            }
+// The form that may help with a block.
+fn help(quirks: bool, block: &[u8; 32768]) -> usize {
+    if texts::is_packed(block) {
+        return forms::PACKED;
+    }
+    if quirks {
+        return forms::NOTHING;
+    }
+    if texts::is_lf_alone(block) {
+        return forms::LF_HEADER;
+    }
+    forms::NOTHING
+}
+
+// Whether an octet ends a line.
+fn ends_line(before: u8, x: u8, quirks: bool) -> bool {
+    if x == b'\n' {
+        if quirks {
+            return true;
+        }
+        return before == b'\r';
+    }
+    false
+}
+
+// How many lines that begin so and have a colon or not stand for nothing. A line that continues another stands for something, and a blank one ends the block.
+fn idle(first: u8, colon: bool) -> u64 {
+    if colon {
+        return 0;
+    }
+    match first {
+        b' ' | b'\t' | b'\r' | b'\n' => 0,
+        _ => 1,
+    }
+}
+
+// What the octet before another is, which is the first of its line where the one before it ended a line.
+fn first_of(first: u8, begins: bool, x: u8) -> u8 {
+    match begins {
+        true => x,
+        false => first,
+    }
+}
+
+fn is_colon(colon: bool, x: u8) -> bool {
+    if colon {
+        return true;
+    }
+    x == b':'
+}
+
+// How many lines of a block stand for nothing, its status apart.
+fn idle_lines(s: &[u8], status: bool, quirks: bool) -> u64 {
+    let mut n = 0u64;
+    let mut before = b' ';
+    let mut first = b' ';
+    let mut begins = true;
+    let mut colon = status;
+    for i in 0..s.len() {
+        let x = s[i];
+        first = first_of(first, begins, x);
+        colon = is_colon(colon, x);
+        begins = ends_line(before, x, quirks);
+        if begins {
+            n = std::num::wrapping_add_u64(n, idle(first, colon));
+            colon = false;
+        }
+        before = x;
+    }
+    n
+}
+
+// Says how many lines of a block stand for nothing.
+fn say_idle(path: &[u8], n: u64) {
+    if n > 0 {
+        inputs::remark(forms::IDLE, path, n);
+    }
+}
+
+// What a person may want to know of a block that was read.
+fn remark(path: &[u8], ended: Ended, quirks: bool, block: &[u8; 32768]) {
+    let form = help(quirks, block);
+    inputs::remark(form, path, 0);
+    if form == forms::NOTHING {
+        if ended.answer == BLANK {
+            let octets = texts::front(block, ended.taken as usize);
+            say_idle(path, idle_lines(octets, ended.status, quirks));
         }
     }
 }
@@ -340,8 +436,11 @@ pub fn header(path: &[u8], several: bool, first: u64, quirks: bool) -> u64 {
     if answer == 0 {
         return inputs::UNREAD;
     }
-    hint(path, answer, quirks, &block);
-    inputs::headline(path, several);
+    remark(path, ended, quirks, &block);
+    let first = inputs::headline(path, several);
+    if first != inputs::GOOD {
+        return first;
+    }
     show(
         answer,
         ended.taken,
@@ -398,9 +497,9 @@ fn rebuild<'a>(
     if is_read(path, answer) {
         if is_clean(path, head, table, block, store) {
             abi::writing::bisquecrow_rebuild(head, table, block, store, &mut sheet, &mut count);
-            return closed(
-                answer,
-                out::flush(libc::STDOUT_FILENO, &sheet, count as usize),
+            return inputs::worse(
+                closed(answer),
+                inputs::written(out::flush(libc::STDOUT_FILENO, &sheet, count as usize)),
             );
         }
     }
@@ -426,7 +525,7 @@ pub fn tidy(path: &[u8], first: u64, quirks: bool) -> u64 {
     if answer == 0 {
         return inputs::UNREAD;
     }
-    hint(path, answer, quirks, &block);
+    remark(path, ended, quirks, &block);
     rebuild(path, answer, &head, &table, &block, &store)
 }
 
@@ -446,26 +545,28 @@ fn verdict(answer: u32) -> usize {
 fn say_verdict(answer: u32) -> u64 {
     let mut said = [0u8; 65536];
     let at = forms::tell(&mut said, verdict(answer), 0, 0, 0, 0);
-    let next = out::flush(libc::STDOUT_FILENO, &said, at);
+    let written = inputs::written(out::flush(libc::STDOUT_FILENO, &said, at));
     match answer {
-        80 => inputs::written(next),
-        _ => inputs::BAD,
+        80 => written,
+        _ => inputs::worse(inputs::BAD, written),
     }
 }
 
-// The status of a block that was read to its blank line is good: a cut-off one's last field may be the beginning of another.
-fn whole(path: &[u8], answer: u32) -> u64 {
+// The form for what is amiss with a block that is to be resumed: a cut-off one's last field may be the beginning of another.
+fn amiss_form(answer: u32) -> usize {
     match answer {
-        0 => inputs::UNREAD,
-        BLANK => inputs::GOOD,
-        INPUT => {
-            inputs::remark(forms::CUT_OFF, path, 0);
-            say_verdict(answer)
-        }
-        _ => {
-            inputs::remark(forms::REFUSES, path, wide(answer));
-            inputs::BAD
-        }
+        0 | BLANK => forms::NOTHING,
+        INPUT => forms::CUT_OFF,
+        _ => forms::REFUSES,
+    }
+}
+
+// Says what is amiss with a block that is to be resumed.
+fn say_amiss(path: &[u8], answer: u32, block: &[u8; 32768]) {
+    let form = amiss_form(answer);
+    if form != forms::NOTHING {
+        inputs::remark(help(false, block), path, 0);
+        inputs::remark(form, path, wide(answer));
     }
 }
 
@@ -482,8 +583,33 @@ fn judge<'a>(
     abi::telling::bisquecrow_resume(head, table, block, store, head2, table2, block2, store2)
 }
 
-// The first block was read.
+// The answer of the block that is worse read: one that was not opened, one that was refused, one that was cut off.
+fn less(a: u32, b: u32) -> u32 {
+    match a {
+        BLANK => b,
+        INPUT => match b {
+            BLANK => a,
+            _ => b,
+        },
+        0 => a,
+        _ => match b {
+            0 => b,
+            _ => a,
+        },
+    }
+}
+
+// The verdict on two blocks of which one was not read to its blank line.
+fn amiss(answer: u32) -> u64 {
+    match answer {
+        0 => inputs::UNREAD,
+        _ => say_verdict(answer),
+    }
+}
+
+// The second block is read whatever the first is, so that both are told of.
 fn compare<'a>(
+    answer: u32,
     head: &[u64; 13],
     table: &[u32; 1024],
     block: &'a [u8; 32768],
@@ -503,11 +629,12 @@ fn compare<'a>(
         &mut block2,
         &mut store2,
     );
-    let status = whole(second, ended.answer);
-    if status == inputs::GOOD {
+    say_amiss(second, ended.answer, &block2);
+    let read = less(answer, ended.answer);
+    if read == BLANK {
         return say_verdict(judge(head, table, block, store, &head2, &table2, &block2, &store2));
     }
-    status
+    amiss(read)
 }
 
 // Says whether the body of the second of two HTTP answers may be appended to that of the first.
@@ -525,9 +652,6 @@ pub fn resume(first: &[u8], second: &[u8]) -> u64 {
         &mut block,
         &mut store,
     );
-    let status = whole(first, ended.answer);
-    if status == inputs::GOOD {
-        return compare(&head, &table, &block, &store, second);
-    }
-    status
+    say_amiss(first, ended.answer, &block);
+    compare(ended.answer, &head, &table, &block, &store, second)
 }

@@ -3,7 +3,7 @@
 //     #  the number                                $  two numbers, a place: its octets, as far as a terminal takes them for nothing else
 //     <  an offset of a place                      ?  the same as a column: without spaces, - for none
 //     ^  the name of a record type                 *  the same as a string of JSON, null for none
-//     &  the same as a string of JSON              %  what a test answered
+//     %  what a test answered
 //
 // and some for none of them:
 //
@@ -57,29 +57,37 @@ pub const REFUSES: usize = 18;
 
 pub const UNCLEAN: usize = 19;
 
-pub const APPEND: usize = 20;
+pub const IDLE: usize = 20;
 
-pub const NO_TAG: usize = 21;
+pub const APPEND: usize = 21;
 
-pub const DIFFER: usize = 22;
+pub const NO_TAG: usize = 22;
 
-pub const NOT_PARTIAL: usize = 23;
+pub const DIFFER: usize = 23;
 
-pub const NOT_WHOLE: usize = 24;
+pub const NOT_PARTIAL: usize = 24;
 
-pub const NOT_READ: usize = 25;
+pub const NOT_WHOLE: usize = 25;
 
-pub const PACKED: usize = 26;
+pub const NOT_READ: usize = 26;
 
-pub const LF_ALONE: usize = 27;
+pub const EMPTY: usize = 27;
 
-pub const NO_WARC: usize = 28;
+pub const PACKED: usize = 28;
 
-pub const LF_HEADER: usize = 29;
+pub const LF_ALONE: usize = 29;
 
-pub const NO_START: usize = 30;
+pub const LF_HEADER: usize = 30;
 
-pub const NOTHING: usize = 31;
+pub const NO_WARC: usize = 31;
+
+pub const NO_START: usize = 32;
+
+pub const BLANK_LINE: usize = 33;
+
+pub const NO_RECORD_HERE: usize = 34;
+
+pub const NOTHING: usize = 35;
 
 // The row for one, or the row for another number.
 fn by_number(n: u64, one: u64, other: u64) -> u64 {
@@ -193,18 +201,29 @@ fn shown(sign: u8, n: u64) -> u64 {
     }
 }
 
-fn part<'a>(block: &'a [u8], store: &'a [u8], from: u64, to: u64) -> &'a [u8] {
+pub fn part<'a>(block: &'a [u8], store: &'a [u8], from: u64, to: u64) -> &'a [u8] {
     if from < STORE {
         return texts::part(block, from as usize, to as usize);
     }
     texts::part(store, offset(from) as usize, offset(to) as usize)
 }
 
-fn column(said: &mut [u8; 65536], at: usize, s: &[u8]) -> usize {
-    match s.len() {
-        0 => out::octet(said, at, b'-'),
-        _ => out::octets(said, at, s, out::COLUMN),
+fn is_dash(s: &[u8]) -> bool {
+    if s.len() == 1 {
+        return s[0] == b'-';
     }
+    false
+}
+
+// A column; one that is a dash is not none.
+fn column(said: &mut [u8; 65536], at: usize, s: &[u8]) -> usize {
+    if s.len() == 0 {
+        return out::octet(said, at, b'-');
+    }
+    if is_dash(s) {
+        return out::words(said, at, b"%2D");
+    }
+    out::octets(said, at, s, out::COLUMN)
 }
 
 // Octets as a string of JSON.
@@ -229,17 +248,6 @@ fn string_at<'a>(
     }
 }
 
-fn kind_string(said: &mut [u8; 65536], at: usize, code: u64) -> usize {
-    match code {
-        0 => out::words(said, at, b"null"),
-        _ => {
-            let a = out::octet(said, at, b'"');
-            let b = name(said, a, kind(code));
-            out::octet(said, b, b'"')
-        }
-    }
-}
-
 // One sign, with the numbers that it may stand for.
 fn sign<'a>(
     said: &mut [u8; 65536],
@@ -256,16 +264,23 @@ fn sign<'a>(
         b'$' => out::octets(said, at, part(block, store, n, to), out::TEXT),
         b'?' => column(said, at, part(block, store, n, to)),
         b'*' => string_at(said, at, n, to, block, store),
-        b'&' => kind_string(said, at, n),
-        b'|' => out::octet(said, at, b'\n'),
-        _ => out::octet(said, at, x),
+        _ => out::octet(said, at, b'\n'),
+    }
+}
+
+fn is_sign(x: u8) -> bool {
+    match x {
+        b'#' | b'<' | b'$' | b'?' | b'*' | b'^' | b'%' | b'!' | b'~' | b'=' | b'@' | b'|' => {
+            true
+        }
+        _ => false,
     }
 }
 
 // How many numbers a sign stands for.
 fn width(x: u8) -> usize {
     match x {
-        b'#' | b'<' | b'^' | b'&' | b'%' => 1,
+        b'#' | b'<' | b'^' | b'%' => 1,
         b'$' | b'?' | b'*' => 2,
         _ => 0,
     }
@@ -298,10 +313,14 @@ fn fill<'a>(
     let mut k = 0;
     for i in 0..words.len() {
         let x = words[i];
-        let n = number(numbers, index(k, x));
-        let to = number(numbers, std::num::wrapping_add_usize(k, 1));
-        at = sign(said, at, x, n, to, block, store);
-        k = std::num::wrapping_add_usize(k, width(x));
+        if is_sign(x) {
+            let n = number(numbers, index(k, x));
+            let to = number(numbers, std::num::wrapping_add_usize(k, 1));
+            at = sign(said, at, x, n, to, block, store);
+            k = std::num::wrapping_add_usize(k, width(x));
+        } else {
+            at = out::octet(said, at, x);
+        }
     }
     at
 }
@@ -317,7 +336,7 @@ pub fn say<'a>(
 ) -> usize {
     let words = texts::line(
         b"# # # ^ ? ?
-,\"start\":#,\"body\":#,\"length\":#,\"type\":&,\"date\":*,\"uri\":*}
+,\"start\":#,\"body\":#,\"length\":#,\"type\":*,\"date\":*,\"uri\":*}
 good: # ~, # octets
 stopped at position # by number #: !; # ~ before it = good, up to position #
 unreadable at position #; # ~ before it = good, up to position #
@@ -336,17 +355,21 @@ file $:
 $: the header ended by the end of input, without a blank line
 $: the header stopped by number #: !
 $: nothing is written: the header is not clean, and would not be read back as it was
+$: lines without a colon, which stand for nothing: #
 append
 do not append: one of the two has not exactly one ETag, or an empty one
 do not append: the two ETags differ
 do not append: the second answer's code is not 206
 do not append: a header was cut off before its blank line
-do not append: one of the two is no header that was read
-$: this is packed by gzip: unpack it first, as by gunzip
-$: its lines end in LF alone, and those of a WARC file end in CR LF
+do not append: a header could not be read
+$: the file is empty
+$: what begins here is packed, as by gzip or zstd: unpack it first
+$: the lines end in LF alone, and those of a WARC file end in CR LF
+$: the lines end in LF alone: --quirks reads such a header
 $: this is no WARC file, which begins with WARC/1.0 or WARC/1.1
-$: its lines end in LF alone: --quirks reads such a header
-$: warc walk lists where records start
+$: no record starts there: warc walk lists where they do
+$: a blank line too many stands behind the last good record
+$: what stands behind the last good record is none, which begins with WARC/1.0 or WARC/1.1
 ",
         form,
     );

@@ -1,5 +1,5 @@
 // What is said of the program and of each command, to who asks for it and to who used it wrongly.
-use crate::out;
+use crate::inputs;
 
 pub const WALK: usize = 0;
 
@@ -18,7 +18,7 @@ pub const BODY: usize = 6;
 // The help of a command, or of the program.
 pub fn help(fd: i32, command: usize) -> u64 {
     match command {
-        WALK => out::text(
+        WALK => inputs::text(
             fd,
             b"warc walk [--json] FILE...
 
@@ -26,23 +26,24 @@ Lists the records of each file: start, body offset, body length, type, date, tar
 and %, stand as %XX. How the file ends is said on standard error.
 
   --json    an object for each record, on a line of its own: file, start, body, length, type, date, uri; null where there is none.
-            Each character of a string is one octet, from U+0000 to U+00FF.
+            The texts are as they stand in the file: each character of a string is one octet, from U+0000 to U+00FF.
 ",
         ),
-        CHECK => out::text(
+        CHECK => inputs::text(
             fd,
             b"warc check FILE...
 
 Says of each file how many records are good and, where it stops: the position, the number, what that means and what was good before it.
 ",
         ),
-        HEADER | TIDY => out::text(
+        HEADER | TIDY => inputs::text(
             fd,
             b"warc header [--status | --fields] [--quirks] FILE...
 warc tidy [--status | --fields] [--quirks] FILE...
 
-header shows the header block that each file begins with: its status, its fields with their places, and whether it is clean, tidy and
-grammatical. tidy writes it rebuilt; a header that is not clean cannot be, which is said. What stands behind the block is not looked at.
+header shows the header block that each file begins with: its status, its fields, where they lie, from the block's first octet or in the
+store where folded values are put together, and whether it is clean (it can be written and read back), tidy (it is as tidy writes it) and
+grammatical (a WARC 1.1 header). tidy writes it rebuilt, unless it is not clean. What stands behind the block is not looked at.
 
   --status  the first line is a status line, as where it begins with HTTP/ or WARC/
   --fields  the first line is a field, as where it begins otherwise
@@ -51,7 +52,7 @@ grammatical. tidy writes it rebuilt; a header that is not clean cannot be, which
 The words status, fields and quirks do the same: a file of such a name is ./status.
 ",
         ),
-        RESUME => out::text(
+        RESUME => inputs::text(
             fd,
             b"warc resume FIRST SECOND
 
@@ -59,16 +60,16 @@ Says whether the body of the second HTTP answer may be appended to that of the f
 is 206, and each header is closed by its blank line.
 ",
         ),
-        RECORD | BODY => out::text(
+        RECORD | BODY => inputs::text(
             fd,
             b"warc record FILE START
 warc body FILE START
 
-record shows the record that starts at octet START of a file, as walk lists them: its numbers, its version line and its fields. body writes
-its body, and says on standard error where it is cut off.
+record shows the record that starts at octet START of a file, as walk lists them: its numbers, its version line and its fields, and where
+those lie, from START. body writes its body, and says on standard error where it is cut off.
 ",
         ),
-        _ => out::text(
+        _ => inputs::text(
             fd,
             b"warc walk FILE...            lists the records: start, body offset, body length, type, date, target URI
 warc check FILE...           says where and why a file stops, and how many records were good
@@ -80,7 +81,7 @@ warc resume FIRST SECOND     says whether the second HTTP answer's body may be a
 warc COMMAND --help          says more of a command, and its options
 warc --version               says which one this is
 
-FILE is a path, or - for standard input, which is one file.
+FILE is a path, or - for standard input, which is one file; a path that begins with - is written ./-
 Exit status: 0 done and good, 1 the file or the answer is not, 2 wrong use or a file that cannot be read.
 ",
         ),

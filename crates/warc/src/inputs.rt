@@ -6,12 +6,15 @@ use crate::texts;
 // A number of loop turns that no run uses up: nothing says that an input ends, and a proved loop has to.
 pub const TURNS: u64 = 18446744073709551615;
 
-// A status: done and good; the file or the answer is not good; wrong use, or a file that cannot be read.
+// A status: done and good; the file or the answer is not good; wrong use, or a file that cannot be read; a write that failed, which ends all and is told as
+// BAD is.
 pub const GOOD: u64 = 0;
 
 pub const BAD: u64 = 1;
 
 pub const UNREAD: u64 = 2;
+
+pub const UNWRITTEN: u64 = 3;
 
 // A read failed.
 pub const FAILED: u64 = 18446744073709551615;
@@ -20,8 +23,24 @@ pub const FAILED: u64 = 18446744073709551615;
 pub fn written(next: usize) -> u64 {
     match next {
         0 => GOOD,
-        _ => BAD,
+        _ => UNWRITTEN,
     }
+}
+
+// Writes a text at once; answers the status.
+pub fn text(fd: i32, s: &[u8]) -> u64 {
+    match out::send(fd, s) {
+        true => GOOD,
+        false => UNWRITTEN,
+    }
+}
+
+// The worse of two statuses.
+pub fn worse(a: u64, b: u64) -> u64 {
+    if a < b {
+        return b;
+    }
+    a
 }
 
 // Names a path and says why the last call on it failed. The room holds a path of which each octet is said as %XX.
@@ -77,8 +96,9 @@ pub fn open(path: &[u8]) -> i32 {
     }
 }
 
-pub fn close(fd: i32) {
-    if fd != libc::STDIN_FILENO {
+// Closes what was opened. Where there is no standard input, a file's descriptor may be its.
+pub fn close(fd: i32, path: &[u8]) {
+    if !is_standard(path) {
         libc::close(fd);
     }
 }
@@ -152,10 +172,10 @@ fn pass(fd: i32, start: u64) {
     }
 }
 
-// Goes to a start where the input has places; whether it has.
+// Goes on by a start where the input has places; whether it has.
 fn is_set(fd: i32, start: u64) -> bool {
     if start < 1000000000000000000 {
-        return libc::lseek(fd, start as i64, libc::SEEK_SET) >= 0;
+        return libc::lseek(fd, start as i64, libc::SEEK_CUR) >= 0;
     }
     false
 }

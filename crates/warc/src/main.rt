@@ -152,31 +152,53 @@ fn takes(command: usize, files: u64) -> bool {
     }
 }
 
-// Whether a command has the arguments that it wants: standard input holds one file, and a first line is one thing.
-fn is_right(command: usize, a: Asked) -> bool {
+// What is wrong with the arguments of a command, by the lines of `misused`; RIGHT where nothing is.
+const RIGHT: usize = 7;
+
+fn fault(command: usize, a: Asked) -> usize {
+    if command >= PROGRAM {
+        return 0;
+    }
+    if a.strange > 0 {
+        return 1;
+    }
     if excess(command, a) > 0 {
-        return false;
+        return 2;
     }
     if a.standard > 1 {
-        return false;
+        return 3;
     }
-    if a.status > 0 {
-        if a.fields > 0 {
-            return false;
-        }
+    let both = least(a.status, a.fields);
+    if both > 0 {
+        return 4;
     }
-    takes(command, sum(a.files, a.standard))
+    match takes(command, sum(a.files, a.standard)) {
+        true => RIGHT,
+        false => 5,
+    }
 }
 
-fn misused(command: usize) -> u64 {
-    if command < PROGRAM {
-        out::text(
-            libc::STDERR_FILENO,
-            b"warc: these are not the command's arguments\n\n",
-        );
-    } else {
-        out::text(libc::STDERR_FILENO, b"warc: there is no such command\n\n");
+fn least(a: u64, b: u64) -> u64 {
+    if a < b {
+        return a;
     }
+    b
+}
+
+fn misused(command: usize, fault: usize) -> u64 {
+    let said = texts::line(
+        b"warc: there is no such command
+warc: there is no such option
+warc: that is no option of the command
+warc: standard input is one file, and - stands twice
+warc: --status and --fields exclude each other
+warc: the command takes another number of files
+warc: START is no number of up to 18 digits
+",
+        fault,
+    );
+    inputs::text(libc::STDERR_FILENO, said);
+    inputs::text(libc::STDERR_FILENO, b"\n\n");
     helps::help(libc::STDERR_FILENO, command);
     inputs::UNREAD
 }
@@ -237,19 +259,14 @@ fn on_argument(command: usize, i: usize, a: Asked, several: bool) -> u64 {
     }
 }
 
-fn worse(a: u64, b: u64) -> u64 {
-    if a < b {
-        return b;
-    }
-    a
-}
-
-// A command on each of its files.
+// A command on each of its files, until something cannot be written.
 fn on_each(command: usize, count: usize, a: Asked) -> u64 {
     let several = sum(a.files, a.standard) > 1;
     let mut status = inputs::GOOD;
     for i in 2..count {
-        status = worse(status, on_argument(command, i, a, several));
+        if status < inputs::UNWRITTEN {
+            status = inputs::worse(status, on_argument(command, i, a, several));
+        }
     }
     status
 }
@@ -258,7 +275,7 @@ fn on_each(command: usize, count: usize, a: Asked) -> u64 {
 fn at_start(command: usize, path: &[u8], start: &[u8]) -> u64 {
     let from = texts::decimal(start);
     if from == texts::NONE {
-        return misused(command);
+        return misused(command, 6);
     }
     match command {
         helps::RECORD => walks::walk(path, false, walks::SHOW, from),
@@ -293,31 +310,45 @@ fn right(command: usize, count: usize, a: Asked) -> u64 {
 
 fn with_arguments(command: usize, count: usize) -> u64 {
     let a = asked_of(command, count);
-    if is_right(command, a) {
+    let fault = fault(command, a);
+    if fault == RIGHT {
         return right(command, count, a);
     }
-    misused(command)
+    misused(command, fault)
 }
 
 // Without arguments: the help, and a walk of the sample.
 fn sample() -> u64 {
     helps::help(libc::STDOUT_FILENO, PROGRAM);
-    out::text(libc::STDOUT_FILENO, b"\nwarc walk sample.warc:\n");
+    inputs::text(libc::STDOUT_FILENO, b"\nwarc walk sample.warc:\n");
     walks::walk(b"sample.warc", false, walks::LIST, 0)
 }
 
 fn version() -> u64 {
-    out::text(libc::STDOUT_FILENO, b"warc (bisquecrow) 1.0.0\n")
+    inputs::text(libc::STDOUT_FILENO, b"warc (bisquecrow) 1.0.0\n")
+}
+
+// The help of a command, or of the program where none is named.
+fn helped(command: usize, count: usize) -> u64 {
+    if count > 2 {
+        if command >= PROGRAM {
+            return misused(command, 0);
+        }
+    }
+    helps::help(libc::STDOUT_FILENO, command)
 }
 
 fn command(count: usize) -> u64 {
     let command = word(1);
     if tally(command, count, HELP) > 0 {
-        return helps::help(libc::STDOUT_FILENO, command);
+        return helped(command, count);
     }
     match command {
-        PROGRAM | HELP | 17 => helps::help(libc::STDOUT_FILENO, word(2)),
-        VERSION => version(),
+        PROGRAM | HELP | 17 => helped(word(2), count),
+        VERSION => match count {
+            2 => version(),
+            _ => misused(command, 0),
+        },
         _ => with_arguments(command, count),
     }
 }
@@ -332,9 +363,9 @@ fn run() -> u64 {
 
 fn digit(status: u64) -> u8 {
     match status {
-        0 => b'0',
-        1 => b'1',
-        _ => b'2',
+        inputs::GOOD => b'0',
+        inputs::UNREAD => b'2',
+        _ => b'1',
     }
 }
 

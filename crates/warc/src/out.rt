@@ -20,14 +20,6 @@ pub fn send(fd: i32, s: &[u8]) -> bool {
     false
 }
 
-// Writes a text at once; the status is 1 where that fails.
-pub fn text(fd: i32, s: &[u8]) -> u64 {
-    match send(fd, s) {
-        true => 0,
-        false => 1,
-    }
-}
-
 // Writes what stands before a place.
 pub fn flush(fd: i32, said: &[u8; 65536], at: usize) -> usize {
     if at <= ROOM {
@@ -68,14 +60,32 @@ fn hex(said: &mut [u8; 65536], at: usize, x: u8) -> usize {
     octet(said, next, glyph(x % 16))
 }
 
-// Words as they are.
-pub fn words(said: &mut [u8; 65536], at: usize, s: &[u8]) -> usize {
+// Whether octets fit behind a place, where they are put.
+fn puts(said: &mut [u8], at: usize, s: &[u8]) -> bool {
+    if at <= said.len() {
+        if s.len() <= said.len() - at {
+            lines::copy_in(&mut said[at..], s);
+            return true;
+        }
+    }
+    false
+}
+
+fn words_by_octets(said: &mut [u8; 65536], at: usize, s: &[u8]) -> usize {
     let mut at = at;
     for i in 0..s.len() {
         let x = s[i];
         at = octet(said, at, x);
     }
     at
+}
+
+// Words as they are.
+pub fn words(said: &mut [u8; 65536], at: usize, s: &[u8]) -> usize {
+    if puts(said, at, s) {
+        return std::num::wrapping_add_usize(at, s.len());
+    }
+    words_by_octets(said, at, s)
 }
 
 // How octets are shown.
@@ -85,20 +95,38 @@ pub const COLUMN: u8 = 1;
 
 pub const STRING: u8 = 2;
 
-fn is_visible(x: u8) -> bool {
-    match x {
-        b'!'..=b'~' => true,
-        _ => false,
+// Which octets stand for themselves: those from least to `~` but two.
+fn least(manner: u8) -> u8 {
+    match manner {
+        COLUMN => b'!',
+        _ => b' ',
     }
 }
 
-// Whether an octet stands for itself: in a text a space does, in a column all that can be seen but %, in a string of JSON all but its own two signs.
-fn is_plain(x: u8, manner: u8) -> bool {
-    match x {
-        b' ' => manner != COLUMN,
-        b'%' => manner != COLUMN,
-        b'"' | b'\\' => manner != STRING,
-        _ => is_visible(x),
+fn odd(manner: u8) -> u8 {
+    match manner {
+        TEXT => 0,
+        COLUMN => b'%',
+        _ => b'"',
+    }
+}
+
+fn odder(manner: u8) -> u8 {
+    match manner {
+        STRING => b'\\',
+        _ => 0,
+    }
+}
+
+fn is_plain(x: u8, least: u8, odd: u8, odder: u8) -> bool {
+    if x < least {
+        false
+    } else if x > b'~' {
+        false
+    } else if x == odd {
+        false
+    } else {
+        x != odder
     }
 }
 
@@ -117,19 +145,39 @@ fn escaped(said: &mut [u8; 65536], at: usize, x: u8, manner: u8) -> usize {
 }
 
 fn shown(said: &mut [u8; 65536], at: usize, x: u8, manner: u8) -> usize {
-    match is_plain(x, manner) {
+    match is_plain(x, least(manner), odd(manner), odder(manner)) {
         true => octet(said, at, x),
         false => escaped(said, at, x, manner),
     }
 }
 
-pub fn octets(said: &mut [u8; 65536], at: usize, s: &[u8], manner: u8) -> usize {
+fn still(all: bool, more: bool) -> bool {
+    if all { more } else { false }
+}
+
+fn are_plain(s: &[u8], least: u8, odd: u8, odder: u8) -> bool {
+    let mut all = true;
+    for i in 0..s.len() {
+        all = still(all, is_plain(s[i], least, odd, odder));
+    }
+    all
+}
+
+fn octet_by_octet(said: &mut [u8; 65536], at: usize, s: &[u8], manner: u8) -> usize {
     let mut at = at;
     for i in 0..s.len() {
         let x = s[i];
         at = shown(said, at, x, manner);
     }
     at
+}
+
+// Octets, mostly such as stand for themselves.
+pub fn octets(said: &mut [u8; 65536], at: usize, s: &[u8], manner: u8) -> usize {
+    if are_plain(s, least(manner), odd(manner), odder(manner)) {
+        return words(said, at, s);
+    }
+    octet_by_octet(said, at, s, manner)
 }
 
 pub fn decimal(said: &mut [u8; 65536], at: usize, n: u64) -> usize {

@@ -92,3 +92,50 @@ pub fn is_lf_alone(s: &[u8]) -> bool {
     }
     false
 }
+
+// What a text begins with.
+pub const OTHER: u64 = 0;
+
+pub const PACKED: u64 = 1;
+
+pub const VERSION: u64 = 2;
+
+pub const VERSION_LF: u64 = 3;
+
+pub const LINE_END: u64 = 4;
+
+// Whether a text begins as gzip's and zstd's files do.
+pub fn is_packed(s: &[u8]) -> bool {
+    if begins(s, b"\x1f\x8b") {
+        return true;
+    }
+    begins(s, b"\x28\xb5\x2f\xfd")
+}
+
+fn line_end(x: u8) -> u64 {
+    match x {
+        b'\r' | b'\n' => LINE_END,
+        _ => OTHER,
+    }
+}
+
+fn first_octet(s: &[u8]) -> u64 {
+    if s.len() > 0 {
+        return line_end(s[0]);
+    }
+    OTHER
+}
+
+// What a text begins with, of what a record's header might.
+pub fn opening(s: &[u8]) -> u64 {
+    if is_packed(s) {
+        return PACKED;
+    }
+    if begins(s, b"WARC/") {
+        if is_lf_alone(s) {
+            return VERSION_LF;
+        }
+        return VERSION;
+    }
+    first_octet(s)
+}

@@ -4,6 +4,7 @@ use crate::forms;
 use crate::inputs;
 use crate::out;
 use crate::texts;
+use leaves::names;
 
 // What is done with the records: they are counted, listed in columns, described in JSON; the first is shown, or its body is written.
 pub const COUNT: u64 = 0;
@@ -16,12 +17,8 @@ pub const SHOW: u64 = 3;
 
 pub const WRITE: u64 = 4;
 
-// Answers of the walker and of a lookup.
+// Answers of the walker.
 const MORE: u32 = 64;
-
-const IN_BLOCK: u32 = 71;
-
-const IN_STORE: u32 = 72;
 
 const RECORD: u32 = 73;
 
@@ -68,36 +65,41 @@ struct Place {
     to: u64,
 }
 
+// The number of the first of n fields that has a name; n or 256 where none has. The walker has just judged the table.
+fn field_of<'a>(
+    n: u64,
+    table: &[u32; 1024],
+    block: &'a [u8; 32768],
+    store: &'a [u8; 32768],
+    name: &[u8],
+) -> usize {
+    for i in 0..256 {
+        if i as u64 >= n {
+            return i;
+        }
+        if names::same_name(blocks::key(table, i, block, store), name) {
+            return i;
+        }
+    }
+    256
+}
+
 // The value of the first field of a name; an empty place where there is none.
 fn value<'a>(
-    head: &[u64; 13],
+    n: u64,
     table: &[u32; 1024],
     block: &'a [u8; 32768],
     store: &'a [u8; 32768],
     name: &[u8],
 ) -> Place {
-    let mut number = 0u64;
-    let mut from = 0u64;
-    let mut to = 0u64;
-    let answer = abi::looking::bisquecrow_find(
-        head,
-        table,
-        block,
-        store,
-        name,
-        0,
-        &mut number,
-        &mut from,
-        &mut to,
-    );
-    match answer {
-        IN_BLOCK => Place { from, to },
-        IN_STORE => Place {
-            from: std::num::wrapping_add_u64(from, forms::STORE),
-            to: std::num::wrapping_add_u64(to, forms::STORE),
-        },
-        _ => Place { from: 0, to: 0 },
+    let i = field_of(n, table, block, store, name);
+    if (i as u64) < n {
+        return Place {
+            from: blocks::entry(table, i, 2),
+            to: blocks::entry(table, i, 3),
+        };
     }
+    Place { from: 0, to: 0 }
 }
 
 fn nth(record: &[u64; 4], i: usize) -> u64 {
@@ -107,38 +109,19 @@ fn nth(record: &[u64; 4], i: usize) -> u64 {
     0
 }
 
-// What stands before the form of a record that is listed or described.
-fn open_line(said: &mut [u8; 65536], at: usize, manner: u64, path: &[u8]) -> usize {
-    match manner {
-        DESCRIBE => {
-            let next = out::words(said, at, b"{\"file\":");
-            forms::string(said, next, path)
-        }
-        _ => at,
-    }
-}
-
-// The form of a record that is listed or described.
-fn line_form(manner: u64) -> usize {
-    match manner {
-        DESCRIBE => forms::DESCRIBED,
-        _ => forms::LISTED,
-    }
-}
-
 // A record's line: start, body offset, length, type, date, target URI.
 fn list<'a>(
     said: &mut [u8; 65536],
     at: usize,
-    form: usize,
     record: &[u64; 4],
     head: &[u64; 13],
     table: &[u32; 1024],
     block: &'a [u8; 32768],
     store: &'a [u8; 32768],
 ) -> usize {
-    let date = value(head, table, block, store, b"WARC-Date");
-    let uri = value(head, table, block, store, b"WARC-Target-URI");
+    let n = head[5];
+    let date = value(n, table, block, store, b"WARC-Date");
+    let uri = value(n, table, block, store, b"WARC-Target-URI");
     let numbers = [
         nth(record, 0),
         nth(record, 1),
@@ -149,7 +132,38 @@ fn list<'a>(
         uri.from,
         uri.to,
     ];
-    forms::say(said, at, form, &numbers, block, store)
+    forms::say(said, at, forms::LISTED, &numbers, block, store)
+}
+
+// A record as an object of JSON.
+fn describe<'a>(
+    said: &mut [u8; 65536],
+    at: usize,
+    path: &[u8],
+    record: &[u64; 4],
+    head: &[u64; 13],
+    table: &[u32; 1024],
+    block: &'a [u8; 32768],
+    store: &'a [u8; 32768],
+) -> usize {
+    let n = head[5];
+    let kind = value(n, table, block, store, b"WARC-Type");
+    let date = value(n, table, block, store, b"WARC-Date");
+    let uri = value(n, table, block, store, b"WARC-Target-URI");
+    let numbers = [
+        nth(record, 0),
+        nth(record, 1),
+        nth(record, 2),
+        kind.from,
+        kind.to,
+        date.from,
+        date.to,
+        uri.from,
+        uri.to,
+    ];
+    let a = out::words(said, at, b"{\"file\":");
+    let b = forms::string(said, a, path);
+    forms::say(said, b, forms::DESCRIBED, &numbers, block, store)
 }
 
 // A record's numbers and its header.
@@ -189,19 +203,8 @@ fn tell<'a>(
         return at;
     }
     match manner {
-        LIST | DESCRIBE => {
-            let next = open_line(said, at, manner, path);
-            list(
-                said,
-                next,
-                line_form(manner),
-                record,
-                head,
-                table,
-                block,
-                store,
-            )
-        }
+        LIST => list(said, at, record, head, table, block, store),
+        DESCRIBE => describe(said, at, path, record, head, table, block, store),
         SHOW => show(said, record, head, table, block, store),
         _ => at,
     }
@@ -320,6 +323,7 @@ fn status(how: u64, written: usize) -> u64 {
     match how {
         END | ENOUGH => inputs::written(written),
         UNREAD => inputs::UNREAD,
+        UNWRITTEN => inputs::UNWRITTEN,
         _ => inputs::BAD,
     }
 }
@@ -359,40 +363,45 @@ fn conclude(
     status(how, std::num::wrapping_add_usize(first, second))
 }
 
-fn is_packed(block: &[u8; 32768]) -> bool {
-    if block[0] == 0x1f {
-        return block[1] == 0x8b;
-    }
-    false
-}
-
-// What a person may have done whose file does not begin as a WARC file does.
-fn guess(manner: u64) -> usize {
+// The form for what begins as no record does, behind the file's beginning.
+fn guess_behind(manner: u64, opening: u64) -> usize {
     match manner {
         SHOW | WRITE => forms::NO_START,
-        _ => forms::NO_WARC,
+        _ => match opening {
+            texts::LINE_END => forms::BLANK_LINE,
+            _ => forms::NO_RECORD_HERE,
+        },
     }
 }
 
-// The form that may help where the first record is not good.
-fn hint(manner: u64, block: &[u8; 32768]) -> usize {
-    if is_packed(block) {
-        return forms::PACKED;
+fn guess(manner: u64, opening: u64, whole: u64) -> usize {
+    match whole {
+        0 => forms::NO_WARC,
+        _ => guess_behind(manner, opening),
     }
-    if texts::begins(block, b"WARC/") {
-        if texts::is_lf_alone(block) {
-            return forms::LF_ALONE;
-        }
-        return forms::NOTHING;
-    }
-    guess(manner)
 }
 
-fn say_hint(path: &[u8], manner: u64, how: u64, good: u64, block: &[u8; 32768]) {
-    if how < END {
-        if good == 0 {
-            inputs::remark(hint(manner, block), path, 0);
-        }
+// The form that may help where a header is not read to its end, or its version line is none; `whole` is where it begins.
+fn hint(manner: u64, whole: u64, header: &[u8]) -> usize {
+    let opening = texts::opening(header);
+    match opening {
+        texts::PACKED => forms::PACKED,
+        texts::VERSION => forms::NOTHING,
+        texts::VERSION_LF => forms::LF_ALONE,
+        _ => guess(manner, opening, whole),
+    }
+}
+
+// The form that may help, by how the walk ended.
+fn help(manner: u64, how: u64, position: u64, whole: u64, block: &[u8; 32768]) -> usize {
+    let n = std::num::wrapping_sub_u64(position, whole);
+    match how {
+        END => match position {
+            0 => forms::EMPTY,
+            _ => forms::NOTHING,
+        },
+        4 | 9 | 12 => hint(manner, whole, texts::front(block, n as usize)),
+        _ => forms::NOTHING,
     }
 }
 
@@ -525,7 +534,7 @@ fn walk_over(fd: i32, path: &[u8], several: bool, manner: u64, position: u64) ->
         trail[0],
         whole(&trail),
     );
-    say_hint(path, manner, how, good, &block);
+    inputs::remark(help(manner, how, trail[0], whole(&trail), &block), path, 0);
     status
 }
 
@@ -534,6 +543,13 @@ fn headline(path: &[u8], several: bool, manner: u64) -> u64 {
     match manner {
         LIST => inputs::headline(path, several),
         _ => inputs::GOOD,
+    }
+}
+
+fn walk_under(fd: i32, path: &[u8], several: bool, manner: u64, position: u64) -> u64 {
+    match headline(path, several, manner) {
+        inputs::GOOD => walk_over(fd, path, several, manner, position),
+        failed => failed,
     }
 }
 
@@ -546,8 +562,7 @@ pub fn walk(path: &[u8], several: bool, manner: u64, position: u64) -> u64 {
     if position > 0 {
         inputs::seek(fd, position);
     }
-    headline(path, several, manner);
-    let status = walk_over(fd, path, several, manner, position);
-    inputs::close(fd);
+    let status = walk_under(fd, path, several, manner, position);
+    inputs::close(fd, path);
     status
 }

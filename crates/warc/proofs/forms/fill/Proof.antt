@@ -16,6 +16,9 @@ loop-holds c = search needs
 shared-slice-read-x : tie.Need-shared-slice-read-x Inv-loop μ-loop
 shared-slice-read-x c = search needs
 
+is-sign-requires : tie.Need-is-sign-requires Inv-loop μ-loop
+is-sign-requires c κs = search needs
+
 index-requires : tie.Need-index-requires Inv-loop μ-loop
 index-requires c κs = search needs
 
@@ -37,6 +40,9 @@ width-requires c κs = search needs
 wrapping-add-usize-requires-2 : tie.Need-wrapping-add-usize-requires-2 Inv-loop μ-loop
 wrapping-add-usize-requires-2 c κs = search needs
 
+octet-requires : tie.Need-octet-requires Inv-loop μ-loop
+octet-requires c κs = search needs
+
 add-i : tie.Need-add-i Inv-loop μ-loop
 add-i c = search needs
 
@@ -57,6 +63,7 @@ fill-spec =
     μ-loop
     loop-holds
     shared-slice-read-x
+    is-sign-requires
     index-requires
     number-requires
     wrapping-add-usize-requires
@@ -64,6 +71,7 @@ fill-spec =
     sign-requires
     width-requires
     wrapping-add-usize-requires-2
+    octet-requires
     add-i
     loop-less
     loop-again

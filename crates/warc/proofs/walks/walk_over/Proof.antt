@@ -74,8 +74,17 @@ whole-requires c κs = search needs
 conclude-requires : tie.Need-conclude-requires Inv-loop μ-loop
 conclude-requires c κs = search needs
 
-say-hint-requires : tie.Need-say-hint-requires Inv-loop μ-loop
-say-hint-requires c κs = search needs
+array-read-help : tie.Need-array-read-help Inv-loop μ-loop
+array-read-help c = search needs
+
+whole-requires-2 : tie.Need-whole-requires-2 Inv-loop μ-loop
+whole-requires-2 c κs = search needs
+
+help-requires : tie.Need-help-requires Inv-loop μ-loop
+help-requires c κs = search needs
+
+remark-requires : tie.Need-remark-requires Inv-loop μ-loop
+remark-requires c κs = search needs
 
 returns : tie.Need-returns Inv-loop μ-loop
 returns c = search needs
@@ -107,5 +116,8 @@ walk-over-spec =
     array-read-conclude
     whole-requires
     conclude-requires
-    say-hint-requires
+    array-read-help
+    whole-requires-2
+    help-requires
+    remark-requires
     returns)

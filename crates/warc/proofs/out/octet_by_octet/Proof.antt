@@ -1,8 +1,8 @@
--- `warc::out::octets` is safe and ends: each turn looks at one octet more. Assumes nothing.
+-- `warc::out::octet_by_octet` is safe and ends: each turn shows one octet more. Assumes nothing.
 use borrow.Author.Needs.{needs}
 use Prim.Native.Nat.{_-_}
-use Rattle.warc.proofs.out.octets.Statement.{statement}
-use Rattle.warc.proofs.out.octets.Tie as tie
+use Rattle.warc.proofs.out.octet_by_octet.Statement.{statement}
+use Rattle.warc.proofs.out.octet_by_octet.Tie as tie
 
 abbrev Inv-loop : tie.InvT-loop
 Inv-loop said₀ at s manner at₀ i₀ i-end said at' i = Unit {0}
@@ -31,8 +31,8 @@ loop-again c = search needs
 returns : tie.Need-returns Inv-loop μ-loop
 returns c = search needs
 
-pub octets-spec : {M : Type 1} → statement M
-octets-spec =
+pub octet-by-octet-spec : {M : Type 1} → statement M
+octet-by-octet-spec =
     tie.close
     (tie.spec
     Inv-loop

@@ -1,8 +1,8 @@
--- `warc::out::words` is safe and ends: each turn writes one octet more. Assumes nothing.
+-- `warc::out::words_by_octets` is safe and ends: each turn writes one octet more. Assumes nothing.
 use borrow.Author.Needs.{needs}
 use Prim.Native.Nat.{_-_}
-use Rattle.warc.proofs.out.words.Statement.{statement}
-use Rattle.warc.proofs.out.words.Tie as tie
+use Rattle.warc.proofs.out.words_by_octets.Statement.{statement}
+use Rattle.warc.proofs.out.words_by_octets.Tie as tie
 
 abbrev Inv-loop : tie.InvT-loop
 Inv-loop said₀ at s at₀ i₀ i-end said at' i = Unit {0}
@@ -31,8 +31,8 @@ loop-again c = search needs
 returns : tie.Need-returns Inv-loop μ-loop
 returns c = search needs
 
-pub words-spec : {M : Type 1} → statement M
-words-spec =
+pub words-by-octets-spec : {M : Type 1} → statement M
+words-by-octets-spec =
     tie.close
     (tie.spec
     Inv-loop
