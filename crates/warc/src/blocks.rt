@@ -351,18 +351,18 @@ fn ends_line(before: u8, x: u8, quirks: bool) -> bool {
     false
 }
 
-// How many lines that begin so and have a colon or not stand for nothing. A line that continues another stands for something, and a blank one ends the block.
+// How many lines that begin so and have a colon or not stand for nothing: one that continues another stands for something.
 fn idle(first: u8, colon: bool) -> u64 {
     if colon {
         return 0;
     }
     match first {
-        b' ' | b'\t' | b'\r' | b'\n' => 0,
+        b' ' | b'\t' => 0,
         _ => 1,
     }
 }
 
-// What the octet before another is, which is the first of its line where the one before it ended a line.
+// The first octet of a line, which is this one where the line begins.
 fn first_of(first: u8, begins: bool, x: u8) -> u8 {
     match begins {
         true => x,
@@ -377,9 +377,10 @@ fn is_colon(colon: bool, x: u8) -> bool {
     x == b':'
 }
 
-// How many lines of a block stand for nothing, its status apart.
+// How many lines of a block stand for nothing, its status and the blank line at its end apart.
 fn idle_lines(s: &[u8], status: bool, quirks: bool) -> u64 {
     let mut n = 0u64;
+    let mut last = 0u64;
     let mut before = b' ';
     let mut first = b' ';
     let mut begins = true;
@@ -390,7 +391,8 @@ fn idle_lines(s: &[u8], status: bool, quirks: bool) -> u64 {
         colon = is_colon(colon, x);
         begins = ends_line(before, x, quirks);
         if begins {
-            n = std::num::wrapping_add_u64(n, idle(first, colon));
+            n = std::num::wrapping_add_u64(n, last);
+            last = idle(first, colon);
             colon = false;
         }
         before = x;

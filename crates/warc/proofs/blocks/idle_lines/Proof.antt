@@ -5,10 +5,10 @@ use Rattle.warc.proofs.blocks.idle_lines.Statement.{statement}
 use Rattle.warc.proofs.blocks.idle_lines.Tie as tie
 
 abbrev Inv-loop : tie.InvT-loop
-Inv-loop s status quirks n₀ before₀ first₀ begins₀ colon₀ i₀ i-end n before first begins colon i = Unit {0}
+Inv-loop s status quirks n₀ last₀ before₀ first₀ begins₀ colon₀ i₀ i-end n last before first begins colon i = Unit {0}
 
 abbrev μ-loop : tie.MeasureT-loop
-μ-loop s status quirks n₀ before₀ first₀ begins₀ colon₀ i₀ i-end n before first begins colon i = i-end - i
+μ-loop s status quirks n₀ last₀ before₀ first₀ begins₀ colon₀ i₀ i-end n last before first begins colon i = i-end - i
 
 loop-holds : tie.Need-loop-holds Inv-loop μ-loop
 loop-holds c = search needs
@@ -25,11 +25,11 @@ is-colon-requires c κs = search needs
 ends-line-requires : tie.Need-ends-line-requires Inv-loop μ-loop
 ends-line-requires c κs = search needs
 
-idle-requires : tie.Need-idle-requires Inv-loop μ-loop
-idle-requires c κs = search needs
-
 wrapping-add-u64-requires : tie.Need-wrapping-add-u64-requires Inv-loop μ-loop
 wrapping-add-u64-requires c κs = search needs
+
+idle-requires : tie.Need-idle-requires Inv-loop μ-loop
+idle-requires c κs = search needs
 
 add-i : tie.Need-add-i Inv-loop μ-loop
 add-i c = search needs
@@ -54,8 +54,8 @@ idle-lines-spec =
     first-of-requires
     is-colon-requires
     ends-line-requires
-    idle-requires
     wrapping-add-u64-requires
+    idle-requires
     add-i
     loop-less
     loop-again
