@@ -31,11 +31,11 @@ use Rattle.writes.specs.declared.Wrote.the-variants.{Count, Refused as Unwritte
 use Rattle.codes.specs.Codes.{coding, lengthOf as lengthIn, kindOf as kindIn}
 use Rattle.codes.specs.Line.{reasonStart}
 use Rattle.codes.specs.declared.line.Code.{Code}
-use Rattle.codes.specs.declared.line.Code.the-variants.{Is as CodeIs, None as NoCode, Refused as Uncoded}
+use Rattle.codes.specs.declared.line.Code.the-variants.{Known as CodeIs, None as NoCode, Refused as Uncoded}
 use Rattle.codes.specs.declared.Length.{Length}
-use Rattle.codes.specs.declared.Length.the-variants.{Is as LengthIs, Missing as NoLength, Refused as Unmeasured}
+use Rattle.codes.specs.declared.Length.the-variants.{Known as LengthIs, Missing as NoLength, Refused as Unmeasured}
 use Rattle.codes.specs.declared.Kind.{Kind}
-use Rattle.codes.specs.declared.Kind.the-variants.{Is as KindIs, Refused as Untyped}
+use Rattle.codes.specs.declared.Kind.the-variants.{Known as KindIs, Refused as Untyped}
 use Rattle.tidy.specs.Calls.{cleaning, tidying}
 use Rattle.grammar.specs.Walk.{grammatical}
 use Rattle.equals.specs.Equal.{comparing}

@@ -108,7 +108,7 @@ pub fn coded(c: Code) -> u32
     ensures { λ r. ⌜ r ≡ codeOf c ⌝ }
 {
     match c {
-        Code::Is(n) => 67,
+        Code::Known(n) => 67,
         Code::None => 68,
         Code::Refused(x) => refused(x),
     }
@@ -118,7 +118,7 @@ pub fn measured(l: Length) -> u32
     ensures { λ r. ⌜ r ≡ lengthOf l ⌝ }
 {
     match l {
-        Length::Is(n) => 67,
+        Length::Known(n) => 67,
         Length::Missing => 68,
         Length::Refused(x) => refused(x),
     }
@@ -128,7 +128,7 @@ pub fn typed(k: Kind) -> u32
     ensures { λ r. ⌜ r ≡ kindOf k ⌝ }
 {
     match k {
-        Kind::Is(n) => 67,
+        Kind::Known(n) => 67,
         Kind::Refused(x) => refused(x),
     }
 }

@@ -13,7 +13,7 @@ fn put_code(c: Code, code: &mut u64)
     ensures { λ _. ⌜ now (code .exit) ≡ codeNumber c (now (code .entry)) ⌝ }
 {
     match c {
-        Code::Is(n) => {
+        Code::Known(n) => {
             *code = n as u64;
         }
         Code::None => {}
@@ -45,7 +45,7 @@ fn put_length(l: Length, length: &mut u64)
     ensures { λ _. ⌜ now (length .exit) ≡ lengthNumber l (now (length .entry)) ⌝ }
 {
     match l {
-        Length::Is(n) => {
+        Length::Known(n) => {
             *length = n;
         }
         Length::Missing => {}
@@ -77,7 +77,7 @@ fn put_type(k: Kind, code: &mut u64)
     ensures { λ _. ⌜ now (code .exit) ≡ kindNumber k (now (code .entry)) ⌝ }
 {
     match k {
-        Kind::Is(n) => {
+        Kind::Known(n) => {
             *code = n as u64;
         }
         Kind::Refused(e) => {}

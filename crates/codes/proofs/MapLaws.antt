@@ -24,8 +24,8 @@ use Rattle.codes.specs.Codes.{statusText, coding, reasoning, Phrased, le
 use Rattle.codes.specs.declared.line.Code.{Code}
 use Rattle.codes.specs.declared.line.Code.the-variants.{Refused as NoCode}
 use Rattle.codes.specs.declared.Phrase.the-variants.{Stands, None, Refused as NoReason}
-use Rattle.codes.specs.declared.Length.the-variants.{Is as IsLength, Missing, Refused as NoLength}
-use Rattle.codes.specs.declared.Kind.the-variants.{Is as IsKind, Refused as NoKind}
+use Rattle.codes.specs.declared.Length.the-variants.{Known as IsLength, Missing, Refused as NoLength}
+use Rattle.codes.specs.declared.Kind.the-variants.{Known as IsKind, Refused as NoKind}
 
 module _ (m : HeaderMap) (b s : List ℕ) where
   pub code-refused : (x : Refusal) → Bad x ≡ checkedDone m b s → NoCode x ≡ coding m b s

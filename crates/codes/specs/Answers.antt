@@ -3,13 +3,13 @@ use Prim.Native.Nat.{ℕ}
 use Rattle.leaves.specs.Numbers.{found, missing}
 use Rattle.leaves.specs.Refusals.{number}
 use Rattle.codes.specs.declared.line.Code.{Code}
-use Rattle.codes.specs.declared.line.Code.the-variants.{Is as CodeIs, None as NoCode, Refused as Uncoded}
+use Rattle.codes.specs.declared.line.Code.the-variants.{Known as CodeIs, None as NoCode, Refused as Uncoded}
 use Rattle.codes.specs.declared.Phrase.{Phrase}
 use Rattle.codes.specs.declared.Phrase.the-variants.{Stands, None as NoPhrase, Refused as Unphrased}
 use Rattle.codes.specs.declared.Length.{Length}
-use Rattle.codes.specs.declared.Length.the-variants.{Is as LengthIs, Missing as NoLength, Refused as Unmeasured}
+use Rattle.codes.specs.declared.Length.the-variants.{Known as LengthIs, Missing as NoLength, Refused as Unmeasured}
 use Rattle.codes.specs.declared.Kind.{Kind}
-use Rattle.codes.specs.declared.Kind.the-variants.{Is as KindIs, Refused as Untyped}
+use Rattle.codes.specs.declared.Kind.the-variants.{Known as KindIs, Refused as Untyped}
 
 -- a code, or "else none"
 abbrev pub codeAnswer : Code → ℕ

@@ -20,9 +20,9 @@ use Rattle.codes.specs.declared.line.Code.the-variants.{Refused as NoCod
 use Rattle.codes.specs.declared.Phrase.{Phrase}
 use Rattle.codes.specs.declared.Phrase.the-variants.{Stands, None, Refused as NoReason}
 use Rattle.codes.specs.declared.Length.{Length}
-use Rattle.codes.specs.declared.Length.the-variants.{Is as IsLength, Missing, Refused as NoLength}
+use Rattle.codes.specs.declared.Length.the-variants.{Known as IsLength, Missing, Refused as NoLength}
 use Rattle.codes.specs.declared.Kind.{Kind}
-use Rattle.codes.specs.declared.Kind.the-variants.{Is as IsKind, Refused as NoKind}
+use Rattle.codes.specs.declared.Kind.the-variants.{Known as IsKind, Refused as NoKind}
 
 -- the status that a lookup hands out, empty without one
 abbrev pub statusText : HeaderMap → List ℕ → List ℕ → List ℕ

@@ -24,14 +24,14 @@ pub enum Phrase {
 
 // The content length of the first field of that name.
 pub enum Length {
-    Is(u64),
+    Known(u64),
     Missing,
     Refused(Refusal),
 }
 
 // The code of a record's type.
 pub enum Kind {
-    Is(u16),
+    Known(u16),
     Refused(Refusal),
 }
 
@@ -99,7 +99,7 @@ pub fn content_length<'a>(m: HeaderMap, block: &'a [u8], store: &'a [u8]) -> Len
             let p = f.value;
             let value = maps::part(block, store, p);
             let n = lengths::content_length(value);
-            Length::Is(n)
+            Length::Known(n)
         }
         Sighted::Missing => Length::Missing,
         Sighted::Refused(x) => Length::Refused(x),
@@ -115,9 +115,9 @@ pub fn record_type<'a>(m: HeaderMap, block: &'a [u8], store: &'a [u8]) -> Kind
             let p = f.value;
             let value = maps::part(block, store, p);
             let n = types::record_type(value);
-            Kind::Is(n)
+            Kind::Known(n)
         }
-        Sighted::Missing => Kind::Is(0),
+        Sighted::Missing => Kind::Known(0),
         Sighted::Refused(x) => Kind::Refused(x),
     }
 }

@@ -9,7 +9,7 @@ ghost use Rattle.codes.specs.Told.{codeTold, startTold};
 
 // A status code: a number, none, or a refusal of the map that was asked.
 pub enum Code {
-    Is(u16),
+    Known(u16),
     None,
     Refused(Refusal),
 }
@@ -60,7 +60,7 @@ fn small_number(text: &[u8]) -> Code
     if lengths::is_decimal(text) {
         let n = lengths::content_length(text);
         if n <= 65535 {
-            return Code::Is(n as u16);
+            return Code::Known(n as u16);
         }
         return Code::None;
     }

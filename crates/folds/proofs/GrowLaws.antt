@@ -4,14 +4,13 @@ use mathlib.Core.Bool.{Bool, true, false}
 use mathlib.Core.List.{List, [], _∷_, _++_}
 use Prim.Native.Nat.{ℕ, _+_, _-_, _≤_, _<_}
 use native.Mathlib.Omega.{arith}
-use native.Mathlib.Numerals.{add-one}
 use borrow.Author.Tests.{ne-eqb, eq-eqb, le-leb, lt-leb, lt-ltb, le-ltb}
 use lib.Dec.{leb}
 use lib.ListN.{length, set, take, drop, length-append, length-drop}
-use lib.Seq.{set-split, length-take-le}
+use lib.Seq.{length-take-le}
 use Rattle.leaves.specs.Trim.{trimmed}
 use Rattle.leaves.specs.Paste.{pasted}
-use Rattle.leaves.proofs.PasteLaws.{pasted-more}
+use Rattle.leaves.proofs.PasteLaws.{pasted-more, set-pasted}
 use Rattle.leaves.proofs.ChoiceLaws.{if-true, if-false}
 use Rattle.folds.specs.Rule.{Ruling, plain, putField, grown, regrown, folded, split, rule4, continues, trimmedAt}
 use Rattle.maps.specs.Places.{part, inStore, readField}
@@ -27,10 +26,6 @@ use Rattle.leaves.specs.declared.refusals.Refusal.the-variants.{StoreFull, Fiel
 use Rattle.folds.specs.declared.Change.{Change}
 use Rattle.folds.specs.declared.Change.the-variants.{Nothing, Status as Headed, Put, Refused as Stops}
 use Rattle.folds.proofs.ListLaws.{pasted-none}
-
-pub set-pasted : (s : List ℕ) (at x : ℕ) → at < length s → set s at x ≡ pasted s at (x ∷ [])
-unfolding pasted
-set-pasted s at x h = rw (set-split s at x h, add-one)
 
 pub tail-pasted : (s : List ℕ) (at : ℕ) (t : List ℕ) → at < length s → pasted (set s at 32) (at + 1) t ≡ pasted s at (32 ∷ t)
 tail-pasted s at t h = ap (λ (l : List ℕ). pasted l (at + 1) t) (set-pasted s at 32 h) ∙ pasted-more s (32 ∷ []) t at (omega arith)

@@ -9,7 +9,7 @@ use native.Mathlib.Numerals.{add-one}
 use borrow.Author.Tests.{leb-true, leb-false}
 use lib.Dec.{leb}
 use lib.ListN.{length, getD, set, take, drop, length-append, length-drop, length-take, take-append-drop, drop-of-length-le}
-use lib.Seq.{paste, paste-zero, paste-suc, length-paste, take-paste, drop-paste, take-length, take-nil, take-take, take-add, drop-drop, take-all, drop-append-le, drop-append-add, take-at, length-take-le, getD-take, getD-drop}
+use lib.Seq.{paste, paste-zero, paste-suc, length-paste, take-paste, drop-paste, take-length, take-nil, take-take, take-add, drop-drop, take-all, drop-append-le, drop-append-add, take-at, length-take-le, getD-take, getD-drop, set-split}
 use Rattle.leaves.specs.Paste.{pasted, lay}
 
 -- a part of the first n
@@ -58,6 +58,11 @@ pasted-more d s t a h =
     (rw l at (drop-append-add (take a d ++ s) (drop (a + length s) d) (length t))) in
     let w : a + length s + length t ≡ a + length (s ++ t) = rw length-append (omega arith) in
     rw (j, u, v, drop-drop, w, append-assoc, append-assoc)
+
+-- to write one octet
+pub set-pasted : (d : List ℕ) (at x : ℕ) → at < length d → set d at x ≡ pasted d at (x ∷ [])
+unfolding pasted
+set-pasted d at x h = rw (set-split d at x h, add-one)
 
 -- what is written within a text leaves its length
 pub length-pasted : (d : List ℕ) (a : ℕ) (s : List ℕ) → a + length s ≤ length d → length (pasted d a s) ≡ length d

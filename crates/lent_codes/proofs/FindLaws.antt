@@ -18,29 +18,11 @@ use Rattle.lookups.specs.Lookups.{named, seeking, finding, valueIn, valuePlace,
 use Rattle.lookups.specs.declared.Slot.{Slot}
 use Rattle.lookups.specs.declared.Slot.the-variants.{Holds}
 use Rattle.lookups.specs.declared.Found.the-variants.{Nth}
+use Rattle.lookups.proofs.FoundLaws.{inside}
 use Rattle.lookups.proofs.SeekLaws.{find-fine, find-refused}
 use Rattle.lookups.proofs.HandLaws.{slot-fine}
 use Rattle.lent.specs.Table.{fieldAt, fieldsFrom, mapIn}
 use Rattle.lent.proofs.LentLaws.{fields-length, fields-at, fields-take}
-
--- a number that a search finds is that of a field
-module _ (p : Field → Bool) where
-  seek-at : (n : ℕ) (x : Field) (xs : List Field) → p x ≡ true → seeking p n (x ∷ xs) ≡ Nth n
-  unfolding seeking if_then_else_
-  seek-at n x xs e = rw e
-
-  seek-on : (n : ℕ) (x : Field) (xs : List Field) → p x ≡ false → seeking p n (x ∷ xs) ≡ seeking p (n + 1) xs
-  unfolding seeking if_then_else_
-  seek-on n x xs e = rw e
-
-  inside : (n i : ℕ) (xs : List Field) → seeking p n xs ≡ Nth i → i < n + length xs
-  unfolding seeking
-  inside n i [] e = clash (cc)
-  inside n i (x ∷ xs) e = choose (p x) refl (λ h. inside (n + 1) i xs h)
-    where
-      choose : (t : Bool) → p x ≡ t → (seeking p (n + 1) xs ≡ Nth i → i < n + 1 + length xs) → i < n + length (x ∷ xs)
-      choose true f ih = let z : n ≡ i = cc (seek-at n x xs f) in omega arith
-      choose false f ih = let z = ih (sym (seek-on n x xs f) ∙ e) in omega (arith, z)
 
 module _ (t : List ℕ) (h : Head) (b s name : List ℕ) where
   module _ (e : Fine ≡ checkedDone (mapIn t h) b s) where
@@ -61,7 +43,7 @@ module _ (t : List ℕ) (h : Head) (b s name : List ℕ) where
         by (Bad x) e = clash (cc (find-refused (mapIn t h) b s name 0 x e))
 
     within : i < h .fields
-    within = omega (arith, inside (named b s name) 0 i (fieldsFrom t 0 (h .fields - 0)) (find-lent fine ∙ f), fields-length t 0 (h .fields - 0))
+    within = omega (arith, inside (named b s name) 0 i (fieldsFrom t 0 (h .fields - 0)) (find-lent fine ∙ f) .1, fields-length t 0 (h .fields - 0))
 
     pub found-small : i < 256
     found-small = omega (arith, within, find-few fine)

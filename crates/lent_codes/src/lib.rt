@@ -66,7 +66,7 @@ pub fn content_length<'a>(h: Head, t: &[u32], block: &'a [u8], store: &'a [u8]) 
         Found::Nth(i) => {
             let text = value(t, block, store, i);
             let n = lengths::content_length(text);
-            Length::Is(n)
+            Length::Known(n)
         }
         Found::Missing => Length::Missing,
         Found::Refused(x) => Length::Refused(x),
@@ -82,9 +82,9 @@ pub fn record_type<'a>(h: Head, t: &[u32], block: &'a [u8], store: &'a [u8]) -> 
         Found::Nth(i) => {
             let text = value(t, block, store, i);
             let n = types::record_type(text);
-            Kind::Is(n)
+            Kind::Known(n)
         }
-        Found::Missing => Kind::Is(0),
+        Found::Missing => Kind::Known(0),
         Found::Refused(x) => Kind::Refused(x),
     }
 }

@@ -32,7 +32,7 @@ module _ (p : Field → Bool) where
   unfolding seeking if_then_else_
   seek-on n x xs e = rw e
 
-  inside : (n i : ℕ) (xs : List Field) → seeking p n xs ≡ Nth i → (n ≤ i) × (i < n + length xs)
+  pub inside : (n i : ℕ) (xs : List Field) → seeking p n xs ≡ Nth i → (n ≤ i) × (i < n + length xs)
   unfolding seeking
   inside n i [] e = clash (cc)
   inside n i (x ∷ xs) e = choose (p x) refl (λ h. inside (n + 1) i xs h)

@@ -72,7 +72,7 @@ module _ (x y : Said) where
             tag = v ∷ vs;
             first = only-filled (valuesOf (octets "ETag") (x .pairs)) v vs p;
             second = only-filled (valuesOf (octets "ETag") (y .pairs)) v vs (q ∙ s);
-            filled = λ z. absurd (false≢true (ap full (sym z)));
+            not-empty = λ z. absurd (false≢true (ap full (sym z)));
           }
       by false f = not-append {r = Differ} refl (tags-differ (v ∷ vs) (w ∷ ws) (long v vs) (long w ws) f ∙ e)
 
@@ -83,7 +83,7 @@ module _ (x y : Said) where
   to-tags : (a : Appends x y) → tagged (tagOf x) (tagOf y) ≡ Append
   to-tags a =
       ap (λ (l : List ℕ). tagged l (tagOf y)) (tag-is x (a .tag) (a .first)) ∙ ap (tagged (a .tag)) (tag-is y (a .tag) (a .second)) ∙
-      same-tags (a .tag) (a .filled)
+      same-tags (a .tag) (a .not-empty)
 
 module _ (m : HeaderMap) (b s : List ℕ) (k : HeaderMap) (c z : List ℕ) (e : Fine ≡ checkedDone m b s) (f : Fine ≡ checkedDone k c z) where
   pub append-tells : resuming m b s k c z ≡ answer 0 → Appends (saying m b s) (saying k c z)

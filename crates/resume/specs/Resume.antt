@@ -14,7 +14,7 @@ use Rattle.maps.specs.Said.{Said, textOf, saying}
 use Rattle.codes.specs.Line.{statusCode}
 use Rattle.codes.specs.Codes.{coding}
 use Rattle.codes.specs.declared.line.Code.{Code}
-use Rattle.codes.specs.declared.line.Code.the-variants.{Is, None, Refused as NoCode}
+use Rattle.codes.specs.declared.line.Code.the-variants.{Known, None, Refused as NoCode}
 use Rattle.singles.specs.Single.{valuesOf, onlyValue}
 use Rattle.resume.specs.declared.Verdict.{Verdict}
 use Rattle.resume.specs.declared.Verdict.the-variants.{Refused}
@@ -22,7 +22,7 @@ use Rattle.resume.specs.Answers.{answer}
 
 -- not "3 if the second status code isn't 206"
 abbrev pub isPartial : Code → Bool
-isPartial (Is n) = eqb n 206
+isPartial (Known n) = eqb n 206
 isPartial None = false
 isPartial (NoCode x) = false
 
@@ -50,4 +50,4 @@ pub record Appends (x y : Said) : Type 0 where
   pub tag : List ℕ
   pub first : valuesOf (octets "ETag") (x .pairs) ≡ tag ∷ []
   pub second : valuesOf (octets "ETag") (y .pairs) ≡ tag ∷ []
-  pub filled : tag ≡ [] → ⊥
+  pub not-empty : tag ≡ [] → ⊥

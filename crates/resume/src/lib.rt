@@ -18,7 +18,7 @@ fn is_partial(code: Code) -> bool
     ensures { λ r. ⌜ r ≡ isPartial code ⌝ }
 {
     match code {
-        Code::Is(n) => n == 206,
+        Code::Known(n) => n == 206,
         Code::None => false,
         Code::Refused(x) => false,
     }

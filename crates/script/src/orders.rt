@@ -38,7 +38,7 @@ fn nonsense(at: usize) -> Order {
 }
 
 // Arguments that were read, up to the place `at`, where they make no sense if they are not good; and the shape of those that are still to be read.
-struct Given {
+struct Parsed {
     pub at: usize,
     pub good: bool,
     pub shape: u32,
@@ -134,7 +134,7 @@ fn signed(line: &[u8], at: usize, kind: u32) -> Number {
     numbers::made(0, at, false)
 }
 
-fn with(r: Given, n: Number) -> Given {
+fn with(r: Parsed, n: Number) -> Parsed {
     let mut r = r;
     let k = r.count;
     r.at = n.at;
@@ -151,8 +151,8 @@ fn with(r: Given, n: Number) -> Given {
 const ARGUMENTS: usize = 8;
 
 // The arguments of a shape from a place on.
-fn arguments(line: &[u8], at: usize, shape: u32) -> Given {
-    let mut r = Given {
+fn arguments(line: &[u8], at: usize, shape: u32) -> Parsed {
+    let mut r = Parsed {
         at,
         good: true,
         shape,

@@ -3,11 +3,10 @@ use mathlib.Core.Path.{_≡_, refl, sym, ap, _∙_}
 use mathlib.Core.List.{List, [], _∷_, _++_, append-assoc, append-nil}
 use Prim.Native.Nat.{ℕ, _+_, _-_, _≤_, _<_}
 use native.Mathlib.Omega.{arith}
-use native.Mathlib.Numerals.{add-one}
 use lib.ListN.{length, set, take, drop, length-append, length-set, length-drop, take-append-drop}
-use lib.Seq.{take-at, drop-at, drop-drop, length-take-le, set-split}
+use lib.Seq.{take-at, drop-at, drop-drop, length-take-le}
 use Rattle.leaves.specs.Paste.{pasted}
-use Rattle.leaves.proofs.PasteLaws.{pasted-more}
+use Rattle.leaves.proofs.PasteLaws.{pasted-more, set-pasted}
 use Rattle.writes.specs.Written.{Put}
 
 -- one behind the other
@@ -19,15 +18,11 @@ module _ (d₀ d₁ d₂ : List ℕ) (at a b : ℕ) (s t : List ℕ) where
         is = q .is ∙ ap (λ (l : List ℕ). pasted l a t) (p .is) ∙ ap (λ (n : ℕ). pasted (pasted d₀ at s) n t) (p .ends) ∙ pasted-more d₀ s t at h;
       }
 
-one : (d : List ℕ) (at x : ℕ) → at < length d → set d at x ≡ pasted d at (x ∷ [])
-unfolding pasted
-one d at x h = set-split d at x h ∙ rw (add-one at)
-
 pub two : (d : List ℕ) (at x y : ℕ) → at + 2 ≤ length d → set (set d at x) (at + 1) y ≡ pasted d at (x ∷ y ∷ [])
 two d at x y h =
     let p : at < length d = omega arith in
     let q : at + 1 < length (set d at x) = rw (length-set d at x) (omega arith) in
-    one (set d at x) (at + 1) y q ∙ ap (λ (l : List ℕ). pasted l (at + 1) (y ∷ [])) (one d at x p) ∙ pasted-more d (x ∷ []) (y ∷ []) at (omega arith)
+    set-pasted (set d at x) (at + 1) y q ∙ ap (λ (l : List ℕ). pasted l (at + 1) (y ∷ [])) (set-pasted d at x p) ∙ pasted-more d (x ∷ []) (y ∷ []) at (omega arith)
 
 pub put-four : (d₀ d₁ d₂ d₃ d₄ : List ℕ) (i a b c d : ℕ) (s t u v : List ℕ) → i + length s + length t + length u ≤ length d₀
     → Put d₀ d₁ i a s → Put d₁ d₂ a b t → Put d₂ d₃ b c u → Put d₃ d₄ c d v → Put d₀ d₄ i d (s ++ (t ++ (u ++ v)))
