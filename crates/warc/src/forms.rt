@@ -19,75 +19,73 @@ pub const STORE: u64 = 2147483648;
 // The forms.
 pub const LISTED: usize = 0;
 
-pub const DESCRIBED: usize = 1;
+pub const GOOD: usize = 1;
 
-pub const GOOD: usize = 2;
+pub const STOPPED: usize = 2;
 
-pub const STOPPED: usize = 3;
+pub const UNREADABLE: usize = 3;
 
-pub const UNREADABLE: usize = 4;
+pub const NO_RECORD: usize = 4;
 
-pub const NO_RECORD: usize = 5;
+pub const BROKEN: usize = 5;
 
-pub const BROKEN: usize = 6;
+pub const RECORD: usize = 6;
 
-pub const RECORD: usize = 7;
+pub const SO_FAR: usize = 7;
 
-pub const SO_FAR: usize = 8;
+pub const BLANK: usize = 8;
 
-pub const BLANK: usize = 9;
+pub const INPUT: usize = 9;
 
-pub const INPUT: usize = 10;
+pub const REFUSED: usize = 10;
 
-pub const REFUSED: usize = 11;
+pub const STATUS: usize = 11;
 
-pub const STATUS: usize = 12;
+pub const NO_STATUS: usize = 12;
 
-pub const NO_STATUS: usize = 13;
+pub const FIELD: usize = 13;
 
-pub const FIELD: usize = 14;
+pub const TESTS: usize = 14;
 
-pub const TESTS: usize = 15;
+pub const HEADLINE: usize = 15;
 
-pub const HEADLINE: usize = 16;
+pub const CUT_OFF: usize = 16;
 
-pub const CUT_OFF: usize = 17;
+pub const REFUSES: usize = 17;
 
-pub const REFUSES: usize = 18;
+pub const UNCLEAN: usize = 18;
 
-pub const UNCLEAN: usize = 19;
+pub const IDLE: usize = 19;
 
-pub const IDLE: usize = 20;
+pub const APPEND: usize = 20;
 
-pub const APPEND: usize = 21;
+pub const NO_TAG: usize = 21;
 
-pub const NO_TAG: usize = 22;
+pub const DIFFER: usize = 22;
 
-pub const DIFFER: usize = 23;
+pub const NOT_PARTIAL: usize = 23;
 
-pub const NOT_PARTIAL: usize = 24;
+pub const NOT_WHOLE: usize = 24;
 
-pub const NOT_WHOLE: usize = 25;
+pub const NOT_READ: usize = 25;
 
-pub const NOT_READ: usize = 26;
+pub const EMPTY: usize = 26;
 
-pub const EMPTY: usize = 27;
+pub const PACKED: usize = 27;
 
-pub const PACKED: usize = 28;
+pub const LF_ALONE: usize = 28;
 
-pub const LF_ALONE: usize = 29;
+pub const LF_HEADER: usize = 29;
 
-pub const LF_HEADER: usize = 30;
+pub const NO_WARC: usize = 30;
 
-pub const NO_WARC: usize = 31;
+pub const NO_START: usize = 31;
 
-pub const NO_START: usize = 32;
+pub const BLANK_LINE: usize = 32;
 
-pub const BLANK_LINE: usize = 33;
+pub const NO_RECORD_HERE: usize = 33;
 
-pub const NO_RECORD_HERE: usize = 34;
-
-pub const NOTHING: usize = 35;
+pub const NOTHING: usize = 34;
 
 // The row for one, or the row for another number.
 fn by_number(n: u64, one: u64, other: u64) -> u64 {
@@ -301,7 +299,8 @@ fn number(numbers: &[u64], k: usize) -> u64 {
     0
 }
 
-fn fill<'a>(
+// A form's words, with its numbers and the octets of its places.
+pub fn fill<'a>(
     said: &mut [u8; 65536],
     at: usize,
     words: &[u8],
@@ -336,7 +335,6 @@ pub fn say<'a>(
 ) -> usize {
     let words = texts::line(
         b"# # # ^ ? ?
-,\"start\":#,\"body\":#,\"length\":#,\"type\":*,\"date\":*,\"uri\":*}
 good: # ~, # octets
 stopped at position # by number #: !; # ~ before it = good, up to position #
 unreadable at position #; # ~ before it = good, up to position #

@@ -163,7 +163,14 @@ fn describe<'a>(
     ];
     let a = out::words(said, at, b"{\"file\":");
     let b = forms::string(said, a, path);
-    forms::say(said, b, forms::DESCRIBED, &numbers, block, store)
+    forms::fill(
+        said,
+        b,
+        b",\"start\":#,\"body\":#,\"length\":#,\"type\":*,\"date\":*,\"uri\":*}|",
+        &numbers,
+        block,
+        store,
+    )
 }
 
 // A record's numbers and its header.
