@@ -1,4 +1,6 @@
 // What a map tells of the record or the message behind it: status code, reason, content length, record type.
+#![tactic(auto)]
+
 pub mod line;
 
 ghost use Rattle.std.specs.Prelude.{◌≡◌};
@@ -13,7 +15,7 @@ use maps::{Checked, HeaderMap, Status};
 use standard::types;
 
 // Whether a reason stands in the status.
-#[derive(Drop)]
+#[derive(Clone, Copy)]
 pub enum Phrase {
     Stands,
     None,
@@ -21,7 +23,7 @@ pub enum Phrase {
 }
 
 // The content length of the first field of that name.
-#[derive(Drop)]
+#[derive(Clone, Copy)]
 pub enum Length {
     Known(u64),
     Missing,
@@ -29,7 +31,7 @@ pub enum Length {
 }
 
 // The code of a record's type.
-#[derive(Drop)]
+#[derive(Clone, Copy)]
 pub enum Kind {
     Known(u16),
     Refused(Refusal),

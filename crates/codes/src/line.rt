@@ -7,7 +7,7 @@ use leaves::lengths;
 use leaves::refusals::Refusal;
 
 // A status code: a number, none, or a refusal of the map that was asked.
-#[derive(Drop)]
+#[derive(Clone, Copy)]
 pub enum Code {
     Known(u16),
     None,
@@ -15,7 +15,7 @@ pub enum Code {
 }
 
 // Where a part of a text starts, if it has one.
-#[derive(Drop)]
+#[derive(Clone, Copy)]
 pub enum Start {
     Begins(usize),
     None,

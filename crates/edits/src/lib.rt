@@ -1,4 +1,6 @@
 // Edits: set, append, remove, set status.
+#![tactic(auto)]
+
 ghost use Rattle.std.specs.Prelude.{◌≡◌, true, false, ◌||◌, ◌++◌, ◌+◌, ◌≤◌, leb, ltb, length};
 ghost use Rattle.leaves.specs.Paste.{pasted};
 ghost use Rattle.leaves.specs.Sanitise.{sanitised};
@@ -13,20 +15,20 @@ use maps::{Checked, Field, HeaderMap, Status};
 
 mod tables;
 
-#[derive(Drop)]
+#[derive(Clone, Copy)]
 pub enum Edit {
     Done,
     Refused(Refusal),
 }
 
-#[derive(Drop)]
+#[derive(Clone, Copy)]
 pub struct Edited {
     pub answer: Edit,
     pub map: HeaderMap,
 }
 
 // What an edit that puts a key and a value in comes to: a field, or a refusal.
-#[derive(Drop)]
+#[derive(Clone, Copy)]
 pub enum Plan {
     Put(Field),
     Refused(Refusal),

@@ -1,4 +1,6 @@
 // Map equality: status, keys and values by octets.
+#![tactic(auto)]
+
 ghost use Rattle.std.specs.Prelude.{◌≡◌, map, ◌≤◌, take};
 ghost use Rattle.leaves.specs.Octets.{same_list};
 ghost use Rattle.maps.specs.Said.{pair_at, status_at};
@@ -7,7 +9,7 @@ ghost use Rattle.equals.specs.Equal.{same_pairs, same_status, comparing};
 use leaves::refusals::Refusal;
 use maps::{Checked, Field, HeaderMap, Status};
 
-#[derive(Drop)]
+#[derive(Clone, Copy)]
 pub enum Equal {
     Yes,
     No,

@@ -1,4 +1,6 @@
 // Lines and folds: what a line does to a map, by rules 3 and 4.
+#![tactic(auto)]
+
 ghost use Rattle.std.specs.Prelude.{◌≡◌, not, ◌&&◌, ◌∷◌, ◌++◌, ◌+◌, ◌-◌, ◌≤◌, ◌<◌, ltb, length, take, drop};
 ghost use Rattle.lines.specs.Line.{tight};
 ghost use Rattle.leaves.specs.Octets.{before};
@@ -12,7 +14,7 @@ use leaves::trims;
 use maps::{Field, Place};
 
 // What a line does: nothing, the status, a field in a slot with the mark after it, or a refusal.
-#[derive(Drop)]
+#[derive(Clone, Copy)]
 pub enum Change {
     Nothing,
     Status(Place),

@@ -1,4 +1,6 @@
 // The grammar test: whether octets are a header by the standard's grammar.
+#![tactic(auto)]
+
 ghost use Rattle.std.specs.Prelude.{◌≡◌};
 ghost use Rattle.leaves.specs.Class.{Classified};
 ghost use Rattle.grammar.specs.Walk.{opened, folded, keyed, texted, awaited, next, is_over, walk, is_version, grammatical};
@@ -7,7 +9,7 @@ use leaves::classes;
 
 // Where a walk over the lines behind the version line stands: at the first line, at a line behind a field (which may be a folded one),
 // inside a key, inside a text, behind a text's CR, behind the blank line's CR, behind the blank line, or where no header goes on.
-#[derive(Drop)]
+#[derive(Clone, Copy)]
 enum Stage {
     First,
     Line,

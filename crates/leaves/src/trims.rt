@@ -5,7 +5,7 @@ ghost use Rattle.leaves.specs.Trim.{leading, trim_end, Trimming, Trimmed};
 use crate::classes;
 
 // A part of a slice: from start to before end.
-#[derive(Drop)]
+#[derive(Clone, Copy)]
 pub struct Span {
     pub start: usize,
     pub end: usize,

@@ -1,4 +1,6 @@
 // A map in lent numbers: thirteen for its head, four to a field for its table, so that no call copies the table.
+#![tactic(auto)]
+
 pub mod heads;
 pub mod tables;
 

@@ -1,4 +1,6 @@
 // What a map whose table is lent in numbers tells of the record or the message behind it: status code, content length, record type.
+#![tactic(auto)]
+
 ghost use Rattle.std.specs.Prelude.{◌≡◌, ◌<◌, length};
 ghost use Rattle.maps.specs.Places.{at};
 ghost use Rattle.lookups.specs.Lookups.{finding};

@@ -1,4 +1,6 @@
 // Edits of a map whose table is lent in numbers: set, append, remove and set status, none of which copies the table.
+#![tactic(auto)]
+
 ghost use Rattle.std.specs.Prelude.{◌≡◌, ◌≤◌, length};
 ghost use Rattle.maps.specs.Good.{checked_done};
 ghost use Rattle.maps.specs.declared.Checked.TheVariants.{Fine};
@@ -15,7 +17,7 @@ use maps::{Checked, Head, Status};
 mod tables;
 
 // An edit's answer and the head that it leaves.
-#[derive(Drop)]
+#[derive(Clone, Copy)]
 pub struct EditedHead {
     pub answer: Edit,
     pub head: Head,

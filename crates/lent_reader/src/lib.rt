@@ -1,4 +1,6 @@
 // The reader over a map whose table is lent in numbers: begin, feed, finish and clear, no call of which copies the table.
+#![tactic(auto)]
+
 ghost use Rattle.std.specs.Prelude.{◌≡◌, List, length};
 ghost use Rattle.maps.specs.Good.{Ready};
 ghost use Rattle.maps.specs.Maps.{Is};
@@ -15,7 +17,7 @@ use line_reader::Answer;
 use maps::{Checked, Head, Phase};
 
 // A reading's answer over a lent table: the head it leaves, how many octets were taken.
-#[derive(Drop)]
+#[derive(Clone, Copy)]
 pub struct FedHead {
     pub head: Head,
     pub taken: usize,
@@ -23,7 +25,7 @@ pub struct FedHead {
 }
 
 // The head of a map that was made or cleared, or left as it was.
-#[derive(Drop)]
+#[derive(Clone, Copy)]
 pub struct MadeHead {
     pub head: Head,
     pub answer: Checked,

@@ -1,4 +1,6 @@
 // The record walker over a map whose table is lent in numbers: it takes the turns of the walker by value, and no call copies the table.
+#![tactic(auto)]
+
 ghost use Rattle.std.specs.Prelude.{◌≡◌, ◌+◌, ◌≤◌, length};
 ghost use Rattle.maps.specs.Good.{checked, checked_done};
 ghost use Rattle.maps.specs.Maps.{Is};
@@ -17,7 +19,7 @@ use openings::{Opening, Sight, Sights, Spots};
 use walker::{Headed, Kept, Stage, Step, Trail, Trailed, Turn, turns};
 
 // What a call gave over a lent table: the trail and the head it leaves.
-#[derive(Drop)]
+#[derive(Clone, Copy)]
 pub struct WalkedHead {
     pub trail: Trail,
     pub head: Head,

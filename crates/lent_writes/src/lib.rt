@@ -1,4 +1,6 @@
 // The written form of a map whose table is lent in numbers, written into an output that the caller lends.
+#![tactic(auto)]
+
 ghost use Rattle.std.specs.Prelude.{◌≡◌, map, ◌+◌, ◌≤◌, length};
 ghost use Rattle.maps.specs.Said.{pair_at, saying};
 ghost use Rattle.writes.specs.Written.{Put, pair_lines, rebuilt, giving, rebuilding, writing, IsWritten};

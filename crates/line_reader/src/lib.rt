@@ -1,4 +1,6 @@
 // One line of a reading: what it makes of a map but for its table. Whoever has the table puts the field that the line changes.
+#![tactic(auto)]
+
 ghost use Rattle.std.specs.Prelude.{◌≡◌, ◌+◌, ◌-◌, ◌≤◌, ◌<◌, length, take, drop};
 ghost use Rattle.leaves.specs.Octets.{before};
 ghost use Rattle.maps.specs.Maps.{Is};
@@ -11,7 +13,7 @@ use lines::Took;
 use maps::{Field, Head, Status};
 
 // What a piece, or the end of input, did: more is wanted, a blank line or the end of input closed the reading, or a refusal.
-#[derive(Drop)]
+#[derive(Clone, Copy)]
 pub enum Answer {
     More,
     Blank,
@@ -21,7 +23,7 @@ pub enum Answer {
 
 // What a line did: the head after it, what it changes in the table, how far the piece is taken, the answer, and whether the reading
 // goes on.
-#[derive(Drop)]
+#[derive(Clone, Copy)]
 pub struct Handled {
     pub head: Head,
     pub change: Change,

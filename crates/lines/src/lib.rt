@@ -1,4 +1,6 @@
 // Lines: where one ends in a piece, the first place of an octet, copying into the block, and the form that most lines have.
+#![tactic(auto)]
+
 ghost use Rattle.std.specs.Prelude.{◌≡◌, cond, ◌||◌, eqb, ◌+◌, ◌-◌, ◌≤◌, ◌<◌, max, length, take, drop};
 ghost use Rattle.leaves.specs.Octets.{has, before, Skipped};
 ghost use Rattle.leaves.specs.Paste.{pasted};
@@ -312,7 +314,7 @@ pub fn is_tight(line: &[u8], c: usize) -> bool
 }
 
 // Why taking stopped, with the number of octets taken: a line ended, the piece did, or the limit was met.
-#[derive(Drop)]
+#[derive(Clone, Copy)]
 pub enum Took {
     Line(usize),
     More(usize),

@@ -1,4 +1,6 @@
 // Lookups: a field's number by its name; key, value and status as parts of the block or of the store.
+#![tactic(auto)]
+
 ghost use Rattle.std.specs.Prelude.{◌≡◌, ◌≤◌, take, drop};
 ghost use Rattle.lookups.specs.Lookups.{named, seeking, finding, sighted_in, sighting, slot_of, shown_status, value_place, key_place, status_place, Handed};
 
@@ -6,7 +8,7 @@ use leaves::names;
 use leaves::refusals::Refusal;
 use maps::{Checked, Field, HeaderMap, Status};
 
-#[derive(Drop)]
+#[derive(Clone, Copy)]
 pub enum Found {
     Nth(usize),
     Missing,
@@ -14,7 +16,7 @@ pub enum Found {
 }
 
 // A field that was found, with its number.
-#[derive(Drop)]
+#[derive(Clone, Copy)]
 pub enum Sighted {
     Sees(usize, Field),
     Missing,
@@ -80,7 +82,7 @@ pub fn find<'a>(m: HeaderMap, block: &'a [u8], store: &'a [u8], name: &[u8], fro
 }
 
 // A field to hand a part of, or none.
-#[derive(Drop)]
+#[derive(Clone, Copy)]
 pub enum Slot {
     Nothing,
     Holds(Field),

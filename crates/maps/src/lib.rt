@@ -1,4 +1,6 @@
 // Places, fields and the header map; what makes a map good; the part that a place says.
+#![tactic(auto)]
+
 ghost use Rattle.std.specs.Prelude.{◌≡◌, ◌≤◌, take};
 ghost use Rattle.maps.specs.Places.{Parted, Cut, in_block, in_store};
 ghost use Rattle.maps.specs.Good.{good_place, good_status, good_field, good_fields, good_rooms, good_counts, good, checked, checked_done, is_reading, is_done};
@@ -16,39 +18,39 @@ pub const LARGEST: usize = 65536;
 pub const FIELDS: usize = 256;
 
 // An offset of the block, and one of the store: two types, so that they cannot be mixed.
-#[derive(Drop)]
+#[derive(Clone, Copy)]
 pub struct BlockOffset(pub u32);
 
-#[derive(Drop)]
+#[derive(Clone, Copy)]
 pub struct StoreOffset(pub u32);
 
 // A range of the block or a range of the store.
-#[derive(Drop)]
+#[derive(Clone, Copy)]
 pub enum Place {
     Block(BlockOffset, BlockOffset),
     Store(StoreOffset, StoreOffset),
 }
 
-#[derive(Drop)]
+#[derive(Clone, Copy)]
 pub struct Field {
     pub key: Place,
     pub value: Place,
 }
 
-#[derive(Drop)]
+#[derive(Clone, Copy)]
 pub enum Status {
     Absent,
     At(Place),
 }
 
-#[derive(Drop)]
+#[derive(Clone, Copy)]
 pub enum Phase {
     Reading,
     Done,
 }
 
 // What a block was read to, or edits made of it: its texts lie in the two loans.
-#[derive(Drop)]
+#[derive(Clone, Copy)]
 pub struct HeaderMap {
     pub table: [Field; 256],
     pub limit: usize,
@@ -91,7 +93,7 @@ impl HeaderMap {
 }
 
 // A map but for its table.
-#[derive(Drop)]
+#[derive(Clone, Copy)]
 pub struct Head {
     pub limit: usize,
     pub room: usize,
@@ -107,7 +109,7 @@ pub struct Head {
 }
 
 // What a call's first checks say.
-#[derive(Drop)]
+#[derive(Clone, Copy)]
 pub enum Checked {
     Fine,
     Refused(Refusal),

@@ -1,4 +1,6 @@
 // What a header that was read opens: a record, or 9 or 10.
+#![tactic(auto)]
+
 ghost use Rattle.std.specs.Prelude.{◌≡◌, ◌≤◌};
 ghost use Rattle.maps.specs.Good.{checked_done};
 ghost use Rattle.maps.specs.declared.Checked.TheVariants.{Fine};
@@ -15,28 +17,28 @@ use standard::types;
 pub const CAP: u64 = 1099511627776;
 
 // A record of a body length and a type, or a number.
-#[derive(Drop)]
+#[derive(Clone, Copy)]
 pub enum Opening {
     Record(u64, u16),
     Refused(Refusal),
 }
 
 // The number of the first field of a name that was seen, and how many were: 2 is two or more.
-#[derive(Drop)]
+#[derive(Clone, Copy)]
 pub struct Sight {
     pub at: usize,
     pub times: usize,
 }
 
 // What was seen of the two names that open a record: Content-Length and WARC-Type.
-#[derive(Drop)]
+#[derive(Clone, Copy)]
 pub struct Sights {
     pub length: Sight,
     pub kind: Sight,
 }
 
 // The same with the places of the values.
-#[derive(Drop)]
+#[derive(Clone, Copy)]
 pub struct Spots {
     pub lengths: usize,
     pub length: Place,

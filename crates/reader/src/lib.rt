@@ -1,4 +1,6 @@
 // The reader: begin, feed, finish and clear, over a map and its two loans.
+#![tactic(auto)]
+
 ghost use Rattle.std.specs.Prelude.{◌≡◌};
 ghost use Rattle.maps.specs.Good.{Ready};
 ghost use Rattle.maps.specs.Maps.{Is};
@@ -11,7 +13,7 @@ use leaves::refusals::Refusal;
 use line_reader::Answer;
 use maps::{Checked, Field, Head, HeaderMap, Phase, Status};
 
-#[derive(Drop)]
+#[derive(Clone, Copy)]
 pub struct Fed {
     pub map: HeaderMap,
     pub taken: usize,
@@ -19,14 +21,14 @@ pub struct Fed {
 }
 
 // A map that was made or cleared, or left as it was.
-#[derive(Drop)]
+#[derive(Clone, Copy)]
 pub struct Made {
     pub map: HeaderMap,
     pub answer: Checked,
 }
 
 // A field, and its number in the table.
-#[derive(Drop)]
+#[derive(Clone, Copy)]
 pub struct Spot {
     pub slot: usize,
     pub field: Field,

@@ -1,4 +1,6 @@
 // The resume check: may the second message's body be appended to the first's.
+#![tactic(auto)]
+
 ghost use Rattle.std.specs.Prelude.{◌≡◌};
 ghost use Rattle.resume.specs.Resume.{is_partial, tagged, resuming};
 
@@ -6,7 +8,7 @@ use codes::line::Code;
 use leaves::refusals::Refusal;
 use maps::{Checked, HeaderMap};
 
-#[derive(Drop)]
+#[derive(Clone, Copy)]
 pub enum Verdict {
     Append,
     NoTag,

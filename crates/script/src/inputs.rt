@@ -3,7 +3,7 @@ use crate::{memory, prints};
 
 // The line at hand lies from `from` to before `to` of what was read, which ends at `end`. Ready says that there is one, over that
 // nothing is to come.
-#[derive(Drop)]
+#[derive(Clone, Copy)]
 pub struct Input {
     pub from: usize,
     pub to: usize,

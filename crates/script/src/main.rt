@@ -1,6 +1,8 @@
 // Runs cases written one to a line and prints every answer: the words of a line by single spaces, octets in lower-case hex, `-`
 // for no octets, numbers in decimal; the answers of a line by single spaces on a line. A line that makes no sense prints its
 // answers up to there, `?` and the column, and the next line is read. The words are answered by the calls that other languages link.
+#![tactic(auto)]
+
 mod asks;
 mod changes;
 mod damages;

@@ -13,7 +13,7 @@ pub fn next(at: usize) -> usize {
 }
 
 // A number, the place behind it, and whether it made sense; if not, the place says where.
-#[derive(Drop)]
+#[derive(Clone, Copy)]
 pub struct Number {
     pub value: usize,
     pub at: usize,

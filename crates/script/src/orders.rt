@@ -13,7 +13,7 @@ pub const END: u8 = 3;
 
 // A word, and the place behind it. The numbers are its arguments one after the other: of octets in hex the place where they begin; of what makes
 // no sense the column.
-#[derive(Drop)]
+#[derive(Clone, Copy)]
 pub struct Order {
     pub at: usize,
     pub word: u8,
@@ -35,7 +35,7 @@ fn nonsense(at: usize) -> Order {
 }
 
 // Arguments that were read, up to the place `at`, where they make no sense if they are not good; and the shape of those that are still to be read.
-#[derive(Drop)]
+#[derive(Clone, Copy)]
 struct Parsed {
     pub at: usize,
     pub good: bool,
@@ -279,7 +279,7 @@ fn second_octets(word: u8, numbers: [usize; 8]) -> usize {
 const NOWHERE: usize = 18446744073709551615;
 
 // How many octets were laid.
-#[derive(Drop)]
+#[derive(Clone, Copy)]
 pub struct Laid {
     pub one: usize,
     pub two: usize,

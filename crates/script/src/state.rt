@@ -4,7 +4,7 @@ use crate::orders::{Order, START};
 use crate::{memory, orders};
 
 // How much of the block and of the store is lent, and the limit and room of the last begin.
-#[derive(Drop)]
+#[derive(Clone, Copy)]
 pub struct State {
     pub place: usize,
     pub walked: usize,

@@ -3,7 +3,7 @@ use crate::orders::WALK;
 
 // The number of an answer, of `abi`'s or of those below; a, b up to e are the numbers that the texts name. Octets that are shown lie from a to before b. On is
 // how much of its piece a word has walked that is to go on over it, else 0.
-#[derive(Drop)]
+#[derive(Clone, Copy)]
 pub struct Told {
     pub answer: u32,
     pub a: u64,

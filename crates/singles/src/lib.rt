@@ -1,4 +1,6 @@
 // The value of a name that exactly one field has.
+#![tactic(auto)]
+
 ghost use Rattle.std.specs.Prelude.{◌≡◌};
 ghost use Rattle.singles.specs.Single.{single};
 

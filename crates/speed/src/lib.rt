@@ -1,4 +1,6 @@
 // What the benchmarks time: the library's calls, over and over, for a driver in another language to link.
+#![tactic(auto)]
+
 ghost use Rattle.std.specs.Prelude.{◌<◌, ◌≤◌};
 
 use line_reader::Answer;

@@ -6,7 +6,7 @@ ghost use Rattle.standard.specs.Names.{name_of, framed};
 use leaves::names::same_name;
 
 // The fields that WARC 1.1 names.
-#[derive(Drop)]
+#[derive(Clone, Copy)]
 pub enum WarcHeader {
     WarcType,
     WarcRecordId,
@@ -32,7 +32,7 @@ pub enum WarcHeader {
 }
 
 // A name's octets, with zeros behind them.
-#[derive(Drop)]
+#[derive(Clone, Copy)]
 pub struct Name {
     pub octets: [u8; 28],
     pub length: usize,

@@ -1,4 +1,6 @@
 // The clean test, which asks a map, and the tidy test, which asks octets.
+#![tactic(auto)]
+
 mod scan;
 mod texts;
 
@@ -10,7 +12,7 @@ ghost use Rattle.tidy.specs.Calls.{cleaning, tidying};
 use leaves::refusals::Refusal;
 use maps::{Checked, Field, HeaderMap, Status};
 
-#[derive(Drop)]
+#[derive(Clone, Copy)]
 pub enum Test {
     Yes,
     No,

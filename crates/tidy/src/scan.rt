@@ -8,7 +8,7 @@ ghost use Rattle.tidy.specs.Pass.{past_text, past_filled, past_pair};
 use crate::texts;
 
 // The place behind what was looked for.
-#[derive(Drop)]
+#[derive(Clone, Copy)]
 pub enum Past {
     Behind(usize),
     Not,

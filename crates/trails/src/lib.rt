@@ -1,4 +1,6 @@
 // A walker's trail in four lent numbers: its position, what is left of a body, the last header's position, and where it stands.
+#![tactic(auto)]
+
 ghost use Rattle.std.specs.Prelude.{◌≡◌, length};
 ghost use Rattle.leaves.specs.Refusals.{refusal};
 ghost use Rattle.trails.specs.Trail.{staged, low_stage, stage_of, trail_numbers, trail_of, sound_trail};

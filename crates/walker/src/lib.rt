@@ -1,4 +1,6 @@
 // The record walker: header, body, trailer, again.
+#![tactic(auto)]
+
 pub mod turns;
 
 ghost use Rattle.std.specs.Prelude.{◌≡◌, ◌+◌, ◌≤◌, length};
@@ -19,7 +21,7 @@ pub const FURTHEST: u64 = 4611686018427387904;
 
 // Where a walker stands: before a header's first octet, inside a header, in a body of which `rest` octets are left, before an octet of the
 // trailer, at the end, or stopped by a number.
-#[derive(Drop)]
+#[derive(Clone, Copy)]
 pub enum Stage {
     Between,
     Header,
@@ -33,7 +35,7 @@ pub enum Stage {
 }
 
 // Start is the position of the last header's first octet.
-#[derive(Drop)]
+#[derive(Clone, Copy)]
 pub struct Walker {
     pub map: HeaderMap,
     pub position: u64,
@@ -43,7 +45,7 @@ pub struct Walker {
 }
 
 // A record begun tells its start, its body's offset, its length and its type; the octets taken by a call that answers Body are a body part.
-#[derive(Drop)]
+#[derive(Clone, Copy)]
 pub enum Step {
     More,
     Record(u64, u64, u64, u16),
@@ -52,7 +54,7 @@ pub enum Step {
     Refused(Refusal),
 }
 
-#[derive(Drop)]
+#[derive(Clone, Copy)]
 pub struct Walked {
     pub walker: Walker,
     pub taken: usize,
@@ -60,7 +62,7 @@ pub struct Walked {
 }
 
 // Whether a walker goes on at all.
-#[derive(Drop)]
+#[derive(Clone, Copy)]
 pub enum Resting {
     Stopped(Refusal),
     Ended,
@@ -68,7 +70,7 @@ pub enum Resting {
 }
 
 // A walker but for its map.
-#[derive(Drop)]
+#[derive(Clone, Copy)]
 pub struct Trail {
     pub position: u64,
     pub rest: u64,
@@ -77,7 +79,7 @@ pub struct Trail {
 }
 
 // What a call keeps of the map: all, its rooms, or its rooms to read the next header.
-#[derive(Drop)]
+#[derive(Clone, Copy)]
 pub enum Kept {
     Same,
     Emptied,
@@ -85,7 +87,7 @@ pub enum Kept {
 }
 
 // What a call did on the trail.
-#[derive(Drop)]
+#[derive(Clone, Copy)]
 pub struct Trailed {
     pub trail: Trail,
     pub taken: usize,
@@ -94,7 +96,7 @@ pub struct Trailed {
 }
 
 // Which way a walker goes: it begins a header or goes on with one, passes a body, or a trailer of which octets were taken.
-#[derive(Drop)]
+#[derive(Clone, Copy)]
 pub enum Way {
     Begins,
     GoesOn,
@@ -103,14 +105,14 @@ pub enum Way {
 }
 
 // What a call has to do: no more, or to read octets of the piece, so many, of a header that begins at a position.
-#[derive(Drop)]
+#[derive(Clone, Copy)]
 pub enum Turn {
     Stays(Trailed),
     Reads(Kept, u64, usize),
 }
 
 // What the reader's answer came to, with what the map opens behind a blank line.
-#[derive(Drop)]
+#[derive(Clone, Copy)]
 pub enum Headed {
     Goes,
     Opens(Opening),

@@ -22,7 +22,7 @@ pub const IS_FIELD: u64 = 2;
 
 // What ended a block, the octets that it took, and whether it was to have a status; the answer is 0 where its file could not be opened or read, which
 // was said.
-#[derive(Drop)]
+#[derive(Clone, Copy)]
 struct Ended {
     answer: u32,
     taken: u64,

@@ -1,4 +1,6 @@
 // The program `warc`: what a person runs on a file.
+#![tactic(auto)]
+
 mod blocks;
 mod forms;
 mod helps;
@@ -107,7 +109,7 @@ fn tally(command: usize, count: usize, wanted: usize) -> u64 {
 }
 
 // How many arguments of each kind there are.
-#[derive(Drop)]
+#[derive(Clone, Copy)]
 struct Asked {
     files: u64,
     standard: u64,

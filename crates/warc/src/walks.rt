@@ -56,7 +56,7 @@ fn progress(good: u64, position: u64, piece: u64) {
 }
 
 // A place, as a map's table has it.
-#[derive(Drop)]
+#[derive(Clone, Copy)]
 struct Place {
     from: u64,
     to: u64,

@@ -1,4 +1,6 @@
 // The written form of a map, written into an output that the caller lends.
+#![tactic(auto)]
+
 ghost use Rattle.std.specs.Prelude.{◌≡◌, ◌∷◌, [], map, ◌+◌, ◌≤◌, length, take};
 ghost use Rattle.maps.specs.Said.{pair_at, status_at};
 ghost use Rattle.writes.specs.Written.{Put, pair_line, pair_lines, status_line, giving, rebuilding, untouched, writing, IsWritten};
@@ -6,7 +8,7 @@ ghost use Rattle.writes.specs.Written.{Put, pair_line, pair_lines, status_line, 
 use leaves::refusals::Refusal;
 use maps::{Checked, Field, HeaderMap, Status};
 
-#[derive(Drop)]
+#[derive(Clone, Copy)]
 pub enum Wrote {
     Count(usize),
     Refused(Refusal),

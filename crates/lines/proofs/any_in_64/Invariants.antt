@@ -1,0 +1,15 @@
+-- `lines::any_in_64` meets its contract. Assumes nothing.
+use borrow.Author.Rules.{rules}
+use native.Mathlib.Omega.{arith}
+use mathlib.Core.Path.{◌≡◌, sym, ◌∙◌}
+use Prim.Native.Nat.{◌-◌, ◌≤◌}
+use lib.ListN.{take, drop}
+use Rattle.leaves.specs.Octets.{has, before}
+use Rattle.leaves.proofs.SearchLaws.{has_none, has_next}
+use Rattle.lines.proofs.any_in_64.Given as goal
+
+abbrev pub invariant-loop-j : goal.invariant-loop-j
+invariant-loop-j l = (l.j ≤ 64) × (l.hit ≡ has l.wanted (take l.j (drop l.at l.s)))
+
+abbrev pub decreases-loop-j : goal.decreases-loop-j
+decreases-loop-j l = 64 - l.j

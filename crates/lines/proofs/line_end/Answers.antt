@@ -1,0 +1,24 @@
+-- `lines::line_end` meets its contract. Assumes nothing.
+use borrow.Author.Rules.{rules}
+use native.Mathlib.Omega.{arith}
+use mathlib.Core.Path.{sym, ◌∙◌}
+use Prim.Native.Nat.{◌-◌}
+use lib.ListN.{length}
+use Rattle.leaves.specs.Octets.{before}
+use Rattle.lines.proofs.EndLaws.{Ending, ending_start, ending_end, ending_none, ending_stop, ending_more}
+use Rattle.lines.proofs.line_end.Goals as goal
+
+pub returns-then-s-j : goal.returns-then-s-j
+returns-then-s-j c = ending_none c.loop-i.invariant _ c.find_octet-j.ensures c.if-s-j.true
+
+pub returns-then-quirks : goal.returns-then-quirks
+returns-then-quirks c = ending_stop c.loop-i.invariant _ c.find_octet-j.ensures c.if-s-j.false (rw c.if-quirks.true)
+
+pub returns-then-cr_at : goal.returns-then-cr_at
+returns-then-cr_at c = ending_stop c.loop-i.invariant _ c.find_octet-j.ensures c.if-s-j.false (rw c.if-quirks.false (sym c.cr_at.ensures ∙ c.if-cr_at.true))
+
+pub loop-i-preserved : goal.loop-i-preserved
+loop-i-preserved c = ending_more c.loop-i.invariant _ c.find_octet-j.ensures c.if-s-j.false (rw c.if-quirks.false (sym c.cr_at.ensures ∙ c.if-cr_at.false))
+
+pub returns : goal.returns
+returns c = ending_end c.loop-i.invariant c.loop-i-test.false

@@ -1,0 +1,13 @@
+-- `lines::put_sixteen` meets its contract. Assumes nothing.
+use borrow.Author.Rules.{rules}
+use native.Mathlib.Omega.{arith}
+use mathlib.Core.Path.{refl}
+use Prim.Native.Nat.{◌-◌}
+use Rattle.leaves.proofs.PasteLaws.{Copying, copy_start, copy_step, copy_end}
+use Rattle.lines.proofs.put_sixteen.Given as goal
+
+abbrev pub invariant-loop-j : goal.invariant-loop-j
+invariant-loop-j l = Copying l.initial.out l.at l.group l.out l.j
+
+abbrev pub decreases-loop-j : goal.decreases-loop-j
+decreases-loop-j l = 16 - l.j
