@@ -1,0 +1,26 @@
+-- `folds::name_line` meets its contract. Assumes nothing.
+use Rattle.folds.proofs.GrowLaws.{split_put, split_full, split_none}
+use lib.Seq.{length-take-le}
+use Rattle.leaves.proofs.PasteLaws.{tail_all}
+use borrow.Author.Rules.{rules}
+use native.Mathlib.Omega.{arith}
+use mathlib.Core.Path.{sym, ◌∙◌}
+use Prim.Native.Nat.{◌+◌, ◌-◌}
+use lib.ListN.{length-take}
+use Rattle.folds.proofs.name_line.Goals as goal
+
+pub returns-then-fields-lt256 : goal.returns-then-fields-lt256
+returns-then-fields-lt256 c =
+    let a = c.args in
+    split_put a.start a.line.now a.fields a.mark c.colon-c.result c.colon-c.ensures c.if-c-line.true c.if-fields-lt256.true ∙
+    rw (c.trimmed_place-key.ensures, c.trimmed_place-value.ensures, tail_all a.line.now (c.colon-c.result + 1))
+
+pub returns-then-c-line : goal.returns-then-c-line
+returns-then-c-line c =
+    let a = c.args in
+    split_full a.start a.line.now a.fields a.mark c.colon-c.result c.colon-c.ensures c.if-c-line.true c.if-fields-lt256.false
+
+pub returns : goal.returns
+returns c =
+    let a = c.args in
+    split_none a.start a.line.now a.fields a.mark c.colon-c.result c.colon-c.ensures c.if-c-line.false

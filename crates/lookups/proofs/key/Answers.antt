@@ -1,0 +1,13 @@
+-- `lookups::key` meets its contract. Assumes nothing.
+use Rattle.lookups.specs.Lookups.{key_in}
+use Rattle.lookups.proofs.HandLaws.{hands_part, hands_nothing, slot_within}
+use borrow.Author.Rules.{rules}
+use native.Mathlib.Omega.{arith}
+use mathlib.Core.Path.{refl, sym, ap, ◌∙◌}
+use Prim.Native.Nat.{◌-◌}
+use Rattle.lookups.proofs.key.Goals as goal
+
+pub returns-in-Holds : goal.returns-in-Holds
+returns-in-Holds c =
+    let e = sym c.slot_at-s.ensures ∙ c.in-Holds.is in
+    hands_part _ _ _ _ _ _ (ap key_in e) (slot_within _ _ _ _ _ e).0 c.part.ensures

@@ -1,0 +1,34 @@
+-- `lookups::seek` meets its contract. Assumes nothing.
+use mathlib.Core.List.{List}
+use Rattle.leaves.specs.Name.{same_name}
+use Rattle.lookups.specs.Lookups.{named, seeking, sighted_in}
+use Rattle.lookups.proofs.SeekLaws.{seek_hit, seek_more, seek_end}
+use borrow.Author.Rules.{rules}
+use native.Mathlib.Omega.{arith}
+use mathlib.Core.Path.{◌≡◌, refl, sym, ap, ◌∙◌}
+use Prim.Native.Nat.{ℕ, ◌-◌, ◌≤◌, ◌<◌}
+use lib.ListN.{length, take, drop}
+use Rattle.lookups.proofs.seek.Goals as goal
+
+pub returns-then-same_name : goal.returns-then-same_name
+unfolding named
+returns-then-same_name c =
+    let s = c.args in
+    let w : s.n ≤ length s.t = omega arith in
+    let h : c.loop-i.i < s.n = omega arith in
+    let e = sym (c.same_name.ensures ∙ ap (λ (x : List ℕ). same_name x s.name.now) c.part-key.ensures.is) ∙ c.if-same_name.true in
+    sym (ap (sighted_in s.t) (c.loop-i.invariant ∙ seek_hit _ _ _ (named s.block.now s.store.now s.name.now) w h e))
+
+pub loop-i-preserved : goal.loop-i-preserved
+unfolding named
+loop-i-preserved c =
+    let s = c.args in
+    let w : s.n ≤ length s.t = omega arith in
+    let h : c.loop-i.i < s.n = omega arith in
+    let e = sym (c.same_name.ensures ∙ ap (λ (x : List ℕ). same_name x s.name.now) c.part-key.ensures.is) ∙ c.if-same_name.false in
+    c.loop-i.invariant ∙ seek_more _ _ _ (named s.block.now s.store.now s.name.now) w h e
+
+pub returns : goal.returns
+returns c =
+    let s = c.args in
+    sym (ap (sighted_in s.t) (c.loop-i.invariant ∙ seek_end _ _ _ (named s.block.now s.store.now s.name.now) c.loop-i-test.false))
