@@ -1,0 +1,20 @@
+-- `codes::has_reason` meets its contract. Assumes nothing.
+use Rattle.codes.proofs.MapLaws.{phrase_stands, phrase_none, phrase_refused}
+use Rattle.codes.proofs.LineLaws.{told_at, told_none}
+use borrow.Author.Rules.{rules}
+use mathlib.Core.Path.{sym, ◌∙◌}
+use Prim.Native.Nat.{◌-◌}
+use Rattle.codes.proofs.has_reason.Goals as goal
+
+pub returns-in-Begins : goal.returns-in-Begins
+returns-in-Begins c =
+    phrase_stands _ _ _ (sym c.in-Fine.is ∙ c.check_done-s.ensures) _ c.status_text-text.ensures _
+    (told_at _ _ (sym c.reason_start-start.ensures ∙ c.in-Begins.is))
+
+pub returns-in-None : goal.returns-in-None
+returns-in-None c =
+    phrase_none _ _ _ (sym c.in-Fine.is ∙ c.check_done-s.ensures) _ c.status_text-text.ensures
+    (told_none _ (sym c.reason_start-start.ensures ∙ c.in-None.is))
+
+pub returns-in-Refused : goal.returns-in-Refused
+returns-in-Refused c = phrase_refused _ _ _ _ (sym c.in-Refused.is ∙ c.check_done-s.ensures)

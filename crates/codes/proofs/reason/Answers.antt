@@ -1,0 +1,21 @@
+-- `codes::reason` meets its contract. Assumes nothing.
+use Rattle.codes.proofs.MapLaws.{phrased_at, phrased_none}
+use Rattle.codes.proofs.LineLaws.{told_at, told_none, start_within}
+use Rattle.leaves.proofs.PasteLaws.{tail_all}
+use borrow.Author.Rules.{rules}
+use native.Mathlib.Omega.{arith}
+use mathlib.Core.Path.{refl, sym, ◌∙◌}
+use Prim.Native.Nat.{◌-◌}
+use Rattle.codes.proofs.reason.Goals as goal
+
+pub slice_bounds-result-count : goal.slice_bounds-result-count
+slice_bounds-result-count c =
+    let e = told_at _ _ (sym c.reason_start-start.ensures ∙ c.in-Begins.is) in
+    let w = start_within _ _ e in
+    omega (arith, w)
+
+pub slice_bounds-result-start : goal.slice_bounds-result-start
+slice_bounds-result-start c =
+    let e = told_at _ _ (sym c.reason_start-start.ensures ∙ c.in-Begins.is) in
+    let w = start_within _ _ e in
+    omega (arith, w)

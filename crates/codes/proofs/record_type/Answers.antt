@@ -1,0 +1,25 @@
+-- `codes::record_type` meets its contract. Assumes nothing.
+use borrow.Author.Rules.{rules}
+use Rattle.codes.proofs.MapLaws.{kind_found, kind_missing, kind_refused}
+use Rattle.lookups.proofs.FoundLaws.{sight_at, sight_value, sight_missing, sight_blind}
+use Rattle.standard.specs.declared.names.WarcHeader.TheVariants.{WarcType}
+use Rattle.standard.specs.Names.{name_of}
+use mathlib.Core.Path.{sym, ◌∙◌}
+use Prim.Native.Nat.{◌-◌}
+use Rattle.codes.proofs.record_type.Goals as goal
+
+pub returns-in-Sees : goal.returns-in-Sees
+returns-in-Sees c =
+    let a = c.args in
+    let e = sym c.sight-found.ensures ∙ c.in-Sees.is in
+    kind_found a.m a.block.now a.store.now _ _ _ (c.part-value.ensures.is ∙ sight_value a.m a.block.now a.store.now (name_of WarcType) 0 _ _ e) (sight_at a.m a.block.now a.store.now (name_of WarcType) 0 _ _ e) c.record_type-n.ensures
+
+pub returns-in-Missing : goal.returns-in-Missing
+returns-in-Missing c =
+    let a = c.args in
+    kind_missing _ _ _ (sight_missing a.m a.block.now a.store.now (name_of WarcType) 0 (sym c.sight-found.ensures ∙ c.in-Missing.is))
+
+pub returns-in-Refused : goal.returns-in-Refused
+returns-in-Refused c =
+    let a = c.args in
+    kind_refused _ _ _ _ (sight_blind a.m a.block.now a.store.now (name_of WarcType) 0 _ (sym c.sight-found.ensures ∙ c.in-Refused.is))

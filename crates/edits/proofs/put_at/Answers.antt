@@ -1,0 +1,41 @@
+-- `edits::put_at` meets its contract. Assumes nothing.
+use borrow.Author.Rules.{rules}
+use native.Mathlib.Omega.{arith}
+use mathlib.Core.Path.{sym, ◌∙◌}
+use lib.ListN.{length-map}
+use Rattle.maps.proofs.GoodLaws.{ready_of}
+use Rattle.edits.proofs.EditLaws.{plan_of, put_refused, put_done}
+use Rattle.edits.proofs.put_at.Goals as goal
+
+pub plan_put-planned-requires : goal.plan_put-planned-requires
+plan_put-planned-requires c =
+    let a = c.args in
+    let w = ready_of _ a.m a.block.now a.store.now c.requires.0 in
+    (w.mark, w.most)
+
+pub put-kept-requires : goal.put-kept-requires
+put-kept-requires c =
+    let a = c.args in
+    let w = ready_of _ a.m a.block.now a.store.now c.requires.0 in
+    let p = plan_of _ _ _ _ _ w.mark _ (sym c.in-Put.is ∙ c.plan_put-planned.ensures) in
+    (w.few, p.inside, c.requires.1)
+
+pub write_both-mark-requires : goal.write_both-mark-requires
+write_both-mark-requires c =
+    let a = c.args in
+    let w = ready_of _ a.m a.block.now a.store.now c.requires.0 in
+    let p = plan_of _ _ _ _ _ w.mark _ (sym c.in-Put.is ∙ c.plan_put-planned.ensures) in
+    omega (arith, p.fits, w.store)
+
+pub returns-in-Put : goal.returns-in-Put
+returns-in-Put c =
+    let a = c.args in
+    let w = ready_of _ a.m a.block.now a.store.now c.requires.0 in
+    let p = plan_of _ _ _ _ _ w.mark _ (sym c.in-Put.is ∙ c.plan_put-planned.ensures) in
+    put_done a.m a.block.now a.store.now a.key.now a.value.now a.at w.few p.inside p.fits _ p.is _ c.put-kept.ensures _ c.write_both-mark.ensures.0 _ c.write_both-mark.ensures.1
+
+pub returns-in-Refused : goal.returns-in-Refused
+returns-in-Refused c =
+    let a = c.args in
+    let w = ready_of _ a.m a.block.now a.store.now c.requires.0 in
+    put_refused a.m a.block.now a.store.now a.key.now a.value.now a.at w.few (c.well_formed.0.1.1.0.1.0.1) c.requires.1 w.mark _ (sym c.in-Refused.is ∙ c.plan_put-planned.ensures)

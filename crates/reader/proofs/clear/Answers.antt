@@ -1,0 +1,10 @@
+-- `reader::clear` meets its contract. Assumes nothing.
+use borrow.Author.Rules.{rules}
+use Rattle.reader.proofs.CallLaws.{cleared}
+use Rattle.reader.proofs.clear.Goals as goal
+
+pub returns : goal.returns
+returns c =
+    let a = c.args in
+    rw (c.map_under-map.ensures, c.head_when-head.ensures, c.empty_head-cleared.ensures, c.head_of-old.ensures)
+    (cleared a.m a.block.now a.store.now _ c.check-checked.ensures)

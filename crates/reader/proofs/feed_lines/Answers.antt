@@ -1,0 +1,73 @@
+-- `reader::feed_lines` meets its contract. Assumes nothing.
+use borrow.Author.Rules.{rules}
+use native.Mathlib.Omega.{arith}
+use mathlib.Core.Path.{◌≡◌, refl, sym, ◌∙◌}
+use Prim.Native.Nat.{◌+◌, ◌-◌}
+use lib.ListN.{length, length-map}
+use Rattle.maps.specs.Heads.{under}
+use Rattle.line_reader.proofs.HeldLaws.{Feeding, feeding_start, one}
+use Rattle.line_reader.proofs.LineSteps.{seated, able}
+use Rattle.reader.specs.Heads.{head_after}
+use Rattle.reader.proofs.EndLaws.{handled_nears, handled_on, handled_puts, feed_end}
+use Rattle.reader.proofs.feed_lines.Goals as goal
+
+pub handle_next-handled-requires : goal.handle_next-handled-requires
+handle_next-handled-requires c =
+    let l = c.loop-going in
+    (able (seated l.t l.h l.invariant.1.held c.last_of-slot.ensures), l.invariant.1.held.read)
+
+pub loop-going-smaller-in-Nothing : goal.loop-going-smaller-in-Nothing
+loop-going-smaller-in-Nothing c =
+    let l = c.loop-going in
+    handled_nears l.t l.h l.invariant.1 c.loop-going-test.true c.last_of-slot.ensures c.handle_next-handled.ensures
+
+pub loop-going-preserved-in-Nothing : goal.loop-going-preserved-in-Nothing
+loop-going-preserved-in-Nothing c =
+    let l = c.loop-going in
+    (c.head_after-left.ensures, handled_on l.t l.h l.invariant.1 c.loop-going-test.true c.last_of-slot.ensures c.handle_next-handled.ensures c.in-Nothing.is)
+
+pub loop-going-smaller-in-Status-1 : goal.loop-going-smaller-in-Status-1
+loop-going-smaller-in-Status-1 c =
+    let l = c.loop-going in
+    handled_nears l.t l.h l.invariant.1 c.loop-going-test.true c.last_of-slot.ensures c.handle_next-handled.ensures
+
+pub loop-going-preserved-in-Status-1 : goal.loop-going-preserved-in-Status-1
+loop-going-preserved-in-Status-1 c =
+    let l = c.loop-going in
+    (c.head_after-left.ensures, handled_on l.t l.h l.invariant.1 c.loop-going-test.true c.last_of-slot.ensures c.handle_next-handled.ensures c.in-Status.is)
+
+pub offset_bounds-t-to : goal.offset_bounds-t-to
+offset_bounds-t-to c =
+    let l = c.loop-going in
+    let q = (handled_puts l.t l.h l.invariant.1 c.loop-going-test.true c.last_of-slot.ensures c.handle_next-handled.ensures c.in-Put.is).slot in
+    omega (arith, q)
+
+pub bounds-t-to : goal.bounds-t-to
+bounds-t-to c =
+    let l = c.loop-going in
+    (handled_puts l.t l.h l.invariant.1 c.loop-going-test.true c.last_of-slot.ensures c.handle_next-handled.ensures c.in-Put.is).slot
+
+pub loop-going-smaller-in-Put : goal.loop-going-smaller-in-Put
+loop-going-smaller-in-Put c =
+    let l = c.loop-going in
+    handled_nears l.t l.h l.invariant.1 c.loop-going-test.true c.last_of-slot.ensures c.handle_next-handled.ensures
+
+pub loop-going-preserved-in-Put : goal.loop-going-preserved-in-Put
+loop-going-preserved-in-Put c =
+    let l = c.loop-going in
+    (c.head_after-left.ensures, handled_on l.t l.h l.invariant.1 c.loop-going-test.true c.last_of-slot.ensures c.handle_next-handled.ensures c.in-Put.is)
+
+pub loop-going-smaller : goal.loop-going-smaller
+loop-going-smaller c =
+    let l = c.loop-going in
+    handled_nears l.t l.h l.invariant.1 c.loop-going-test.true c.last_of-slot.ensures c.handle_next-handled.ensures
+
+pub loop-going-preserved : goal.loop-going-preserved
+loop-going-preserved c =
+    let l = c.loop-going in
+    (c.head_after-left.ensures, handled_on l.t l.h l.invariant.1 c.loop-going-test.true c.last_of-slot.ensures c.handle_next-handled.ensures c.in-Refused.is)
+
+pub returns : goal.returns
+returns c =
+    let l = c.loop-going in
+    rw (c.map_under-map.ensures, l.invariant.0) (feed_end l.t l.h (rw c.head_of-h.ensures at l.invariant.1) c.loop-going-test.false)

@@ -1,0 +1,13 @@
+-- `writes::pair_length` meets its contract. Assumes nothing.
+use Rattle.writes.proofs.FormLaws.{bare_length, full_length}
+use borrow.Author.Rules.{rules}
+use native.Mathlib.Omega.{arith}
+use mathlib.Core.Path.{sym}
+use Prim.Native.Nat.{◌-◌}
+use Rattle.writes.proofs.pair_length.Goals as goal
+
+pub returns-then-key-eq0 : goal.returns-then-key-eq0
+returns-then-key-eq0 c = (sym (bare_length _ _ c.if-key-eq0.true), omega (arith, c.requires.1))
+
+pub returns : goal.returns
+returns c = (sym (full_length _ _ c.if-key-eq0.false), omega (arith, c.requires.1))
