@@ -1,0 +1,12 @@
+-- `grammar::is_version` meets its contract. Assumes nothing.
+use borrow.Author.Rules.{rules}
+use mathlib.Core.Path.{sym, ◌∙◌}
+use Prim.Native.Nat.{◌-◌}
+use Rattle.grammar.proofs.StageLaws.{first_version, second_version}
+use Rattle.grammar.proofs.is_version.Goals as goal
+
+pub returns-then-same_octets : goal.returns-then-same_octets
+returns-then-same_octets c = sym (first_version _ (sym c.same_octets.ensures ∙ c.if-same_octets.true))
+
+pub returns : goal.returns
+returns c = c.same_octets-2.ensures ∙ sym (second_version _ (sym c.same_octets.ensures ∙ c.if-same_octets.false))

@@ -1,0 +1,11 @@
+-- `lent::live_at` meets its contract. Assumes nothing.
+use Rattle.lent.specs.Table.{live_in}
+use Rattle.lent.proofs.LentLaws.{sound_parts}
+use mathlib.Core.Path.{◌∙◌, ap}
+use Rattle.lent.proofs.live_at.Goals as goal
+
+pub head_at-h-requires : goal.head_at-h-requires
+head_at-h-requires c = (sound_parts _ _ c.requires).0
+
+pub live_map-requires : goal.live_map-requires
+live_map-requires c = (sound_parts _ _ c.requires).1

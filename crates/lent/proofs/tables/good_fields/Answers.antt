@@ -1,0 +1,31 @@
+-- `lent::tables::good_fields` meets its contract. Assumes nothing.
+use Rattle.maps.proofs.GoodLaws.{and_go, and_stop}
+use Rattle.maps.specs.Good.{good_field, good_fields}
+use Rattle.lent.specs.Table.{fields_from}
+use Rattle.lent.proofs.LentLaws.{good_next, good_end}
+use borrow.Author.Rules.{rules}
+use native.Mathlib.Omega.{arith}
+use mathlib.Core.Path.{◌≡◌, sym, ap, ◌∙◌}
+use Prim.Native.Nat.{ℕ, ◌-◌, ◌<◌}
+use Rattle.lent.proofs.tables.good_fields.Goals as goal
+
+pub loop-i-preserved : goal.loop-i-preserved
+loop-i-preserved c =
+    let a = c.args in
+    let h : c.loop-i.i < a.n = omega (arith, c.loop-i-test.true) in
+    let e = sym c.good_field.ensures ∙ c.if-good_field.true in
+    let g = c.loop-i.invariant ∙ good_next a.count a.mark a.t.now a.n c.loop-i.i h in
+    g ∙ sym (and_go _ _ e)
+
+pub returns-else-good_field : goal.returns-else-good_field
+returns-else-good_field c =
+    let a = c.args in
+    let h : c.loop-i.i < a.n = omega (arith, c.loop-i-test.true) in
+    let e = sym c.good_field.ensures ∙ c.if-good_field.false in
+    let g = c.loop-i.invariant ∙ good_next a.count a.mark a.t.now a.n c.loop-i.i h in
+    sym (g ∙ sym (and_stop _ _ e))
+
+pub returns : goal.returns
+returns c =
+    let a = c.args in
+    sym (c.loop-i.invariant ∙ good_end a.count a.mark a.t.now a.n c.loop-i.i c.loop-i-test.false)

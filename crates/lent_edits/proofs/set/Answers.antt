@@ -1,0 +1,22 @@
+-- `lent_edits::set` meets its contract. Assumes nothing.
+use Rattle.maps.proofs.GoodLaws.{ready_of}
+use Rattle.edits.specs.Edits.{setting}
+use Rattle.edits.proofs.EditLaws.{is_by, edit_refused, set_is}
+use Rattle.lent.specs.Table.{map_in}
+use borrow.Author.Rules.{rules}
+use mathlib.Core.Path.{sym, ◌∙◌}
+use Rattle.lent_edits.proofs.set.Goals as goal
+
+pub first_at-at-requires : goal.first_at-at-requires
+first_at-at-requires c =
+    let a = c.args in
+    let e = sym c.in-Fine.is ∙ c.check_done-s.ensures in
+    let w = ready_of _ (map_in a.t.now a.h) a.block.now a.store.now e in
+    (w.few, c.requires)
+
+pub returns-in-Fine : goal.returns-in-Fine
+returns-in-Fine c = is_by (set_is _ _ _ _ _ (sym c.in-Fine.is ∙ c.check_done-s.ensures) _ c.first_at-at.ensures.0) c.put_at.ensures
+
+pub returns-in-Refused : goal.returns-in-Refused
+unfolding setting
+returns-in-Refused c = edit_refused _ _ _ _ _ (sym c.in-Refused.is ∙ c.check_done-s.ensures)

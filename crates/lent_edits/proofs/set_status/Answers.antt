@@ -1,0 +1,59 @@
+-- `lent_edits::set_status` meets its contract. Assumes nothing.
+use Rattle.leaves.specs.Sanitise.{sanitised}
+use Rattle.maps.proofs.GoodLaws.{ready_of}
+use Rattle.edits.specs.Edits.{statusing}
+use Rattle.edits.proofs.EditLaws.{edit_refused, status_room, status_done}
+use Rattle.lent.specs.Table.{map_in}
+use borrow.Author.Rules.{rules}
+use native.Mathlib.Omega.{arith}
+use mathlib.Core.Path.{◌≡◌, sym, ◌∙◌}
+use mathlib.Core.Bool.{true}
+use Prim.Native.Nat.{◌+◌, ◌≤◌, ◌<◌}
+use lib.ListN.{length}
+use Rattle.lent_edits.proofs.set_status.Goals as goal
+
+pub overflow_sub-room : goal.overflow_sub-room
+overflow_sub-room c =
+    let a = c.args in
+    let e = sym c.in-Fine.is ∙ c.check_done-s.ensures in
+    let w = ready_of _ (map_in a.t.now a.h) a.block.now a.store.now e in
+    w.mark
+
+pub sanitise_into-n-requires : goal.sanitise_into-n-requires
+sanitise_into-n-requires c =
+    let a = c.args in
+    let e = sym c.in-Fine.is ∙ c.check_done-s.ensures in
+    let w = ready_of _ (map_in a.t.now a.h) a.block.now a.store.now e in
+    let k : c.sanitised_length-k.result ≡ length (sanitised true a.text.now) = c.sanitised_length-k.ensures in
+    omega (arith, w.mark, w.store, k, c.if-k-room.true)
+
+pub in_store-place-requires : goal.in_store-place-requires
+in_store-place-requires c =
+    let a = c.args in
+    let e = sym c.in-Fine.is ∙ c.check_done-s.ensures in
+    let w = ready_of _ (map_in a.t.now a.h) a.block.now a.store.now e in
+    let k : c.sanitised_length-k.result ≡ length (sanitised true a.text.now) = c.sanitised_length-k.ensures in
+    (omega (arith, w.mark, w.most), omega (arith, w.mark, w.most, k, c.if-k-room.true, c.sanitise_into-n.ensures.0))
+
+pub returns-then-k-room : goal.returns-then-k-room
+returns-then-k-room c =
+    let a = c.args in
+    let e = sym c.in-Fine.is ∙ c.check_done-s.ensures in
+    let w = ready_of _ (map_in a.t.now a.h) a.block.now a.store.now e in
+    let k : c.sanitised_length-k.result ≡ length (sanitised true a.text.now) = c.sanitised_length-k.ensures in
+    let g : a.h.mark + length (sanitised true a.text.now) ≤ a.h.room = omega (arith, w.mark, k, c.if-k-room.true) in
+    let n : c.sanitise_into-n.result ≡ length (sanitised true a.text.now) = c.sanitise_into-n.ensures.0 in
+    status_done (map_in a.t.now a.h) a.block.now a.store.now a.text.now e w.few g _ (rw n) _ c.in_store-place.ensures _ c.sanitise_into-n.ensures.1
+
+pub returns-else-k-room : goal.returns-else-k-room
+returns-else-k-room c =
+    let a = c.args in
+    let e = sym c.in-Fine.is ∙ c.check_done-s.ensures in
+    let w = ready_of _ (map_in a.t.now a.h) a.block.now a.store.now e in
+    let k : c.sanitised_length-k.result ≡ length (sanitised true a.text.now) = c.sanitised_length-k.ensures in
+    let g : a.h.room < a.h.mark + length (sanitised true a.text.now) = omega (arith, w.mark, k, c.if-k-room.false) in
+    status_room (map_in a.t.now a.h) a.block.now a.store.now a.text.now e w.few g
+
+pub returns-in-Refused : goal.returns-in-Refused
+unfolding statusing
+returns-in-Refused c = edit_refused _ _ _ _ _ (sym c.in-Refused.is ∙ c.check_done-s.ensures)

@@ -1,0 +1,40 @@
+-- `lent_edits::tables::first_at` meets its contract. Assumes nothing.
+use mathlib.Core.List.{List}
+use Rattle.leaves.specs.Name.{same_name}
+use Rattle.leaves.specs.Sanitise.{sanitised}
+use Rattle.lookups.specs.Lookups.{named}
+use Rattle.edits.specs.Fields.{first_at}
+use Rattle.edits.proofs.KeepLaws.{first_end}
+use Rattle.lent.specs.Table.{table_of}
+use Rattle.lent_edits.proofs.ThinLaws.{first_passed, first_found}
+use native.Mathlib.Nat.{zero-add}
+use borrow.Author.Rules.{rules}
+use mathlib.Core.Path.{◌≡◌, sym, ap, ◌∙◌}
+use mathlib.Core.Bool.{true}
+use Prim.Native.Nat.{ℕ, ◌+◌, ◌-◌, ◌≤◌, ◌<◌}
+use lib.ListN.{take, drop}
+use Rattle.lent_edits.proofs.tables.first_at.Goals as goal
+
+pub returns-then-matches_sanitised : goal.returns-then-matches_sanitised
+unfolding named
+returns-then-matches_sanitised c =
+    let l = c.loop-i in
+    let h : l.i < c.args.n = c.loop-i-test.true in
+    let p = named c.args.block.now c.args.store.now (sanitised true c.args.key.now) in
+    let e = sym (c.matches_sanitised.ensures ∙ ap (λ (x : List ℕ). same_name x (sanitised true c.args.key.now)) c.part-text.ensures.is) ∙ c.if-matches_sanitised.true in
+    (sym (l.invariant.1 ∙ first_found p c.args.t.now c.args.n l.i c.requires.0 h _ c.field_at-f.ensures e), l.invariant.0)
+
+pub loop-i-preserved : goal.loop-i-preserved
+unfolding named
+loop-i-preserved c =
+    let l = c.loop-i in
+    let h : l.i < c.args.n = c.loop-i-test.true in
+    let p = named c.args.block.now c.args.store.now (sanitised true c.args.key.now) in
+    let e = sym (c.matches_sanitised.ensures ∙ ap (λ (x : List ℕ). same_name x (sanitised true c.args.key.now)) c.part-text.ensures.is) ∙ c.if-matches_sanitised.false in
+    (search rules, l.invariant.1 ∙ first_passed p c.args.t.now c.args.n l.i c.requires.0 h _ c.field_at-f.ensures e)
+
+pub returns : goal.returns
+returns c =
+    let l = c.loop-i in
+    let p = named c.args.block.now c.args.store.now (sanitised true c.args.key.now) in
+    (sym (l.invariant.1 ∙ first_end p (table_of c.args.t.now) c.args.n l.i c.loop-i-test.false), l.invariant.0)

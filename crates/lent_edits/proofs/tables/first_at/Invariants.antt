@@ -1,0 +1,22 @@
+-- `lent_edits::tables::first_at` meets its contract. Assumes nothing.
+use mathlib.Core.List.{List}
+use Rattle.leaves.specs.Name.{same_name}
+use Rattle.leaves.specs.Sanitise.{sanitised}
+use Rattle.lookups.specs.Lookups.{named}
+use Rattle.edits.specs.Fields.{first_at}
+use Rattle.edits.proofs.KeepLaws.{first_end}
+use Rattle.lent.specs.Table.{table_of}
+use Rattle.lent_edits.proofs.ThinLaws.{first_passed, first_found}
+use native.Mathlib.Nat.{zero-add}
+use borrow.Author.Rules.{rules}
+use mathlib.Core.Path.{◌≡◌, sym, ap, ◌∙◌}
+use mathlib.Core.Bool.{true}
+use Prim.Native.Nat.{ℕ, ◌+◌, ◌-◌, ◌≤◌, ◌<◌}
+use lib.ListN.{take, drop}
+use Rattle.lent_edits.proofs.tables.first_at.Given as goal
+
+abbrev pub invariant-loop-i : goal.invariant-loop-i
+invariant-loop-i l = (l.i ≤ l.n) × (first_at (named l.block l.store (sanitised true l.key)) (take l.n (table_of l.t)) ≡ l.i + first_at (named l.block l.store (sanitised true l.key)) (drop l.i (take l.n (table_of l.t))))
+
+abbrev pub decreases-loop-i : goal.decreases-loop-i
+decreases-loop-i l = l.n - l.i

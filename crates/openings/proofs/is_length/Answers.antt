@@ -1,0 +1,9 @@
+-- `openings::is_length` meets its contract. Assumes nothing.
+use Rattle.openings.proofs.OpenLaws.{length_tested}
+use borrow.Author.Rules.{rules}
+use mathlib.Core.Path.{sym, ◌∙◌}
+use Prim.Native.Nat.{◌-◌}
+use Rattle.openings.proofs.is_length.Goals as goal
+
+pub returns-then-is_decimal : goal.returns-then-is_decimal
+returns-then-is_decimal c = let a = c.args in length_tested a.value.now _ (sym c.is_decimal.ensures ∙ c.if-is_decimal.true) c.content_length-n.ensures

@@ -1,0 +1,22 @@
+-- `tidy::clean` meets its contract. Assumes nothing.
+use Rattle.tidy.proofs.CleanLaws.{clean_refused, clean_yes, fields_not, status_not}
+use Rattle.maps.proofs.GoodLaws.{ready_of}
+use borrow.Author.Rules.{rules}
+use mathlib.Core.Path.{sym, ◌∙◌}
+use Prim.Native.Nat.{◌-◌}
+use Rattle.tidy.proofs.clean.Goals as goal
+
+pub are_clean-requires : goal.are_clean-requires
+are_clean-requires c = let a = c.args in (ready_of _ a.m a.block.now a.store.now (sym c.in-Fine.is ∙ c.check_done-s.ensures)).few
+
+pub returns-then-are_clean : goal.returns-then-are_clean
+returns-then-are_clean c = let a = c.args in clean_yes a.m a.block.now a.store.now (sym c.in-Fine.is ∙ c.check_done-s.ensures) (sym c.status_is_clean.ensures ∙ c.if-status_is_clean.true) (sym c.are_clean.ensures ∙ c.if-are_clean.true)
+
+pub returns-else-are_clean : goal.returns-else-are_clean
+returns-else-are_clean c = let a = c.args in fields_not a.m a.block.now a.store.now (sym c.in-Fine.is ∙ c.check_done-s.ensures) (sym c.are_clean.ensures ∙ c.if-are_clean.false)
+
+pub returns-else-status_is_clean : goal.returns-else-status_is_clean
+returns-else-status_is_clean c = let a = c.args in status_not a.m a.block.now a.store.now (sym c.in-Fine.is ∙ c.check_done-s.ensures) (sym c.status_is_clean.ensures ∙ c.if-status_is_clean.false)
+
+pub returns-in-Refused : goal.returns-in-Refused
+returns-in-Refused c = clean_refused _ _ _ _ (sym c.in-Refused.is ∙ c.check_done-s.ensures)

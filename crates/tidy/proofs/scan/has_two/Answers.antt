@@ -1,0 +1,14 @@
+-- `tidy::scan::has_two` meets its contract. Assumes nothing.
+use Rattle.tidy.proofs.TwoLaws.{two_short, two_first, two_not}
+use borrow.Author.Rules.{rules}
+use Prim.Native.Nat.{◌-◌}
+use Rattle.tidy.proofs.scan.has_two.Goals as goal
+
+pub returns-then-octets-at-lt2 : goal.returns-then-octets-at-lt2
+returns-then-octets-at-lt2 c = let a = c.args in two_short a.octets.now a.at a.x a.y c.if-octets-at-lt2.true
+
+pub returns-then-octets-at : goal.returns-then-octets-at
+returns-then-octets-at c = let a = c.args in two_first a.octets.now a.at a.x a.y c.if-octets-at-lt2.false c.if-octets-at.true
+
+pub returns : goal.returns
+returns c = let a = c.args in two_not a.octets.now a.at a.x a.y c.if-octets-at-lt2.false c.if-octets-at.false

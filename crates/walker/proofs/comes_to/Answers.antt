@@ -1,0 +1,14 @@
+-- `walker::comes_to` meets its contract. Assumes nothing.
+use borrow.Author.Rules.{rules}
+use Rattle.walker.specs.declared.Headed.TheVariants.{Opens}
+use Rattle.openings.specs.declared.Opening.{Opening}
+use Rattle.openings.proofs.OpenLaws.{opening_goes}
+use mathlib.Core.Path.{sym, ap, ◌∙◌}
+use Prim.Native.Nat.{◌-◌}
+use Rattle.walker.proofs.comes_to.Goals as goal
+
+pub returns-in-Blank : goal.returns-in-Blank
+returns-in-Blank c =
+    let a = c.args in
+    let e = c.in-Blank.is in
+    rw e (ap (λ (o : Opening). Opens o) (c.open_good-o.ensures ∙ sym (opening_goes a.m a.block.now a.store.now (c.requires e))))
