@@ -14,6 +14,12 @@ find_octet-end-requires c =
     let f = told_at _ _ (sym c.behind_space-start.ensures ∙ c.in-Begins.is) in
     behind_within 0 _ _ f
 
+pub slice_bounds-without_plus-end : goal.slice_bounds-without_plus-end
+slice_bounds-without_plus-end c =
+    let s = c.args in
+    let f = told_at _ _ (sym c.behind_space-start.ensures ∙ c.in-Begins.is) in
+    omega (arith, c.find_octet-end.ensures, before_within 32 (drop c.in-Begins.k s.text.now), length-drop c.in-Begins.k s.text.now, behind_within 0 _ _ f)
+
 pub returns-in-Begins : goal.returns-in-Begins
 returns-in-Begins c =
     let f = told_at _ _ (sym c.behind_space-start.ensures ∙ c.in-Begins.is) in

@@ -1,0 +1,30 @@
+-- `lent_codes::content_length` meets its contract. Assumes nothing.
+use Rattle.codes.proofs.MapLaws.{length_found, length_missing, length_refused}
+use Rattle.standard.specs.Names.{name_of}
+use Rattle.standard.specs.declared.names.WarcHeader.TheVariants.{ContentLength}
+use Rattle.lent.specs.Table.{map_in}
+use Rattle.lent_codes.proofs.FindLaws.{found_small, found_value}
+use borrow.Author.Rules.{rules}
+use mathlib.Core.Path.{sym, ◌∙◌}
+use Prim.Native.Nat.{◌-◌}
+use Rattle.lent_codes.proofs.content_length.Goals as goal
+
+pub value-text-requires : goal.value-text-requires
+value-text-requires c =
+    (found_small c.args.t.now c.args.h c.args.block.now c.args.store.now (name_of ContentLength) _ (sym c.find-found.ensures ∙ c.in-Nth.is), c.requires)
+
+pub returns-in-Nth : goal.returns-in-Nth
+returns-in-Nth c =
+    let s = c.args in
+    let f = sym c.find-found.ensures ∙ c.in-Nth.is in
+    length_found (map_in s.t.now s.h) s.block.now s.store.now _ _ _ (c.value-text.ensures ∙ found_value s.t.now s.h s.block.now s.store.now (name_of ContentLength) _ f) f c.content_length-n.ensures
+
+pub returns-in-Missing : goal.returns-in-Missing
+returns-in-Missing c =
+    let s = c.args in
+    length_missing (map_in s.t.now s.h) s.block.now s.store.now (sym c.find-found.ensures ∙ c.in-Missing.is)
+
+pub returns-in-Refused : goal.returns-in-Refused
+returns-in-Refused c =
+    let s = c.args in
+    length_refused (map_in s.t.now s.h) s.block.now s.store.now _ (sym c.find-found.ensures ∙ c.in-Refused.is)

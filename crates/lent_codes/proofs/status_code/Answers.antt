@@ -1,0 +1,17 @@
+-- `lent_codes::status_code` meets its contract. Assumes nothing.
+use Rattle.codes.proofs.MapLaws.{code_fine, code_refused}
+use Rattle.lent.specs.Table.{map_in}
+use borrow.Author.Rules.{rules}
+use mathlib.Core.Path.{sym, ◌∙◌}
+use Prim.Native.Nat.{◌-◌}
+use Rattle.lent_codes.proofs.status_code.Goals as goal
+
+pub returns-in-Fine : goal.returns-in-Fine
+returns-in-Fine c =
+    let s = c.args in
+    code_fine (map_in s.t.now s.h) s.block.now s.store.now (sym c.in-Fine.is ∙ c.check_done-s.ensures) _ c.status_text-text.ensures _ c.code_of.ensures
+
+pub returns-in-Refused : goal.returns-in-Refused
+returns-in-Refused c =
+    let s = c.args in
+    code_refused (map_in s.t.now s.h) s.block.now s.store.now _ (sym c.in-Refused.is ∙ c.check_done-s.ensures)

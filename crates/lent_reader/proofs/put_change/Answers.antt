@@ -1,0 +1,12 @@
+-- `lent_reader::put_change` meets its contract. Assumes nothing.
+use borrow.Author.Rules.{rules}
+use native.Mathlib.Omega.{arith}
+use mathlib.Core.Path.{ap, ◌∙◌}
+use Rattle.lent.specs.Table.{table_of}
+use Rattle.lent.proofs.LentLaws.{fields_set}
+use Rattle.lent_reader.proofs.put_change.Goals as goal
+
+pub returns-in-Put : goal.returns-in-Put
+returns-in-Put c =
+    let q = rw c.in-Put.is at c.requires.1 in
+    rw c.in-Put.is (ap table_of c.put_field.ensures ∙ fields_set c.args.t.now _ _ c.requires.0 q.slot q.field)
