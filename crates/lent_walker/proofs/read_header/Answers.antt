@@ -13,7 +13,7 @@ use Rattle.lent_walker.proofs.read_header.Goals as goal
 pub comes_to-came-requires : goal.comes_to-came-requires
 comes_to-came-requires c =
     let a = c.args in
-    (c.feed-fed.auto.1.0 ∙ c.requires.0, fed_judged (map_in a.t.now a.h) a.block.now a.store.now _ (fed_in _ c.feed-fed.result) _ _ c.feed-fed.ensures)
+    (c.feed-fed.auto.t ∙ c.requires.0, fed_judged (map_in a.t.now a.h) a.block.now a.store.now _ (fed_in _ c.feed-fed.result) _ _ c.feed-fed.ensures)
 
 pub overflow_add-onward : goal.overflow_add-onward
 overflow_add-onward c =

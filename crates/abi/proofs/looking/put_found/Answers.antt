@@ -1,0 +1,7 @@
+-- `abi::looking::put_found` meets its contract. Assumes nothing.
+use Rattle.abi.proofs.CallLaws.{found_few, seen_found, seen_missing, seen_refused}
+use borrow.Author.Rules.{rules}
+use Rattle.abi.proofs.looking.put_found.Goals as goal
+
+pub returns-in-Nth : goal.returns-in-Nth
+returns-in-Nth c = seen_found _ c.args.h _ _ _ _ _ _ _ _ _ c.in-Nth.is c.requires.1 c.field_at-f.ensures c.put_place.ensures

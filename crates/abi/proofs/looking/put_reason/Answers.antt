@@ -1,0 +1,11 @@
+-- `abi::looking::put_reason` meets its contract. Assumes nothing.
+use Rattle.maps.specs.Places.{at}
+use Rattle.codes.specs.Line.{reason_start}
+use Rattle.codes.proofs.LineLaws.{told_at, told_none, start_within}
+use borrow.Author.Rules.{rules}
+use native.Mathlib.Omega.{arith}
+use mathlib.Core.Path.{refl, sym, ◌∙◌}
+use Rattle.abi.proofs.looking.put_reason.Goals as goal
+
+pub put_rest-requires : goal.put_rest-requires
+put_rest-requires c = omega (arith, start_within _ _ (told_at _ _ (sym c.reason_start.ensures ∙ c.in-Begins.is)), c.part-text.ensures.small)

@@ -1,0 +1,26 @@
+-- `abi::reading::bisquecrow_finish` meets its contract. Assumes nothing.
+use Rattle.abi.proofs.CallLaws.{changed, gave_sound, gave_damaged}
+use Rattle.abi.specs.Calls.{finish_gives, fed_answer, no_numbers, fed_map}
+use Rattle.lent.proofs.LentLaws.{sound_parts, sound_long}
+use mathlib.Core.Path.{refl, sym, ◌∙◌}
+use borrow.Author.Rules.{rules}
+use Rattle.abi.proofs.reading.bisquecrow_finish.Goals as goal
+
+pub head_at-h-requires : goal.head_at-h-requires
+head_at-h-requires c = (sound_parts _ _ (sym c.is_sound.ensures ∙ c.if-is_sound.true)).0
+
+pub finish-fed-requires : goal.finish-fed-requires
+finish-fed-requires c = (sound_parts _ _ (sym c.is_sound.ensures ∙ c.if-is_sound.true)).1
+
+pub put_head-requires : goal.put_head-requires
+put_head-requires c = (sound_long _ _ (sym c.is_sound.ensures ∙ c.if-is_sound.true)).0
+
+pub returns-then-is_sound : goal.returns-then-is_sound
+unfolding finish_gives
+returns-then-is_sound c =
+    gave_sound _ _ _ _ _ _ _ _ _ _ _ _ _ (sym c.is_sound.ensures ∙ c.if-is_sound.true)
+    (changed fed_answer no_numbers fed_map _ _ _ _ _ _ _ _ (rw c.head_at-h.ensures at c.finish-fed.ensures) c.read.ensures refl c.put_head.ensures (c.finish-fed.auto.t ∙ (sound_parts _ _ (sym c.is_sound.ensures ∙ c.if-is_sound.true)).1))
+
+pub returns : goal.returns
+unfolding finish_gives
+returns c = gave_damaged _ _ _ _ _ _ _ (sym c.is_sound.ensures ∙ c.if-is_sound.false)
