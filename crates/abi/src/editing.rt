@@ -6,8 +6,7 @@ use crate::answers;
 use lent::heads;
 
 // The first match gets the new key and value and later ones go, or they are appended.
-#[unsafe(no_mangle)]
-pub extern "C" fn bisquecrow_set(
+pub fn bisquecrow_set(
     head: &mut [u64],
     table: &mut [u32],
     block: &[u8],
@@ -28,8 +27,7 @@ pub extern "C" fn bisquecrow_set(
     answers::DAMAGED
 }
 
-#[unsafe(no_mangle)]
-pub extern "C" fn bisquecrow_append(
+pub fn bisquecrow_append(
     head: &mut [u64],
     table: &mut [u32],
     block: &[u8],
@@ -51,8 +49,7 @@ pub extern "C" fn bisquecrow_append(
 }
 
 // Drops every field of that key.
-#[unsafe(no_mangle)]
-pub extern "C" fn bisquecrow_remove<'a>(
+pub fn bisquecrow_remove<'a>(
     head: &mut [u64],
     table: &mut [u32],
     block: &'a [u8],
@@ -72,8 +69,7 @@ pub extern "C" fn bisquecrow_remove<'a>(
     answers::DAMAGED
 }
 
-#[unsafe(no_mangle)]
-pub extern "C" fn bisquecrow_set_status(
+pub fn bisquecrow_set_status(
     head: &mut [u64],
     table: &[u32],
     block: &[u8],

@@ -13,8 +13,7 @@ use lookups::Found;
 use maps::{Checked, Head, Place, Status};
 
 // How many fields there are: the table's first numbers are then the places of all of them.
-#[unsafe(no_mangle)]
-pub extern "C" fn bisquecrow_fields(
+pub fn bisquecrow_fields(
     head: &[u64],
     table: &[u32],
     block: &[u8],
@@ -75,8 +74,7 @@ fn put_found(
 }
 
 // The first field from a given number on that has a name: its number, and where its value lies.
-#[unsafe(no_mangle)]
-pub extern "C" fn bisquecrow_find<'a>(
+pub fn bisquecrow_find<'a>(
     head: &[u64],
     table: &[u32],
     block: &'a [u8],
@@ -100,8 +98,7 @@ pub extern "C" fn bisquecrow_find<'a>(
 }
 
 // Where the value of a field lies.
-#[unsafe(no_mangle)]
-pub extern "C" fn bisquecrow_value(
+pub fn bisquecrow_value(
     head: &[u64],
     table: &[u32],
     block: &[u8],
@@ -126,8 +123,7 @@ pub extern "C" fn bisquecrow_value(
 }
 
 // Where the key of a field lies.
-#[unsafe(no_mangle)]
-pub extern "C" fn bisquecrow_key(
+pub fn bisquecrow_key(
     head: &[u64],
     table: &[u32],
     block: &[u8],
@@ -161,8 +157,7 @@ fn put_status(s: Status, from: &mut u64, to: &mut u64) -> u32
 }
 
 // Where the status lies.
-#[unsafe(no_mangle)]
-pub extern "C" fn bisquecrow_status(
+pub fn bisquecrow_status(
     head: &[u64],
     table: &[u32],
     block: &[u8],
@@ -212,8 +207,7 @@ fn put_reason<'a>(p: Place, block: &'a [u8], store: &'a [u8], from: &mut u64, to
 }
 
 // Where the reason lies.
-#[unsafe(no_mangle)]
-pub extern "C" fn bisquecrow_reason<'a>(
+pub fn bisquecrow_reason<'a>(
     head: &[u64],
     table: &[u32],
     block: &'a [u8],

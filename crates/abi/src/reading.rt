@@ -7,8 +7,7 @@ use lent::heads;
 use maps::Checked;
 
 // Makes the numbers an empty map that is Reading, whatever they were; refused, they stay.
-#[unsafe(no_mangle)]
-pub extern "C" fn bisquecrow_begin(
+pub fn bisquecrow_begin(
     head: &mut [u64],
     table: &[u32],
     limit: usize,
@@ -39,8 +38,7 @@ pub extern "C" fn bisquecrow_begin(
 }
 
 // Feeds a piece of a block to a map.
-#[unsafe(no_mangle)]
-pub extern "C" fn bisquecrow_feed(
+pub fn bisquecrow_feed(
     head: &mut [u64],
     table: &mut [u32],
     block: &mut [u8],
@@ -64,13 +62,7 @@ pub extern "C" fn bisquecrow_feed(
 }
 
 // Tells a map that its input has ended.
-#[unsafe(no_mangle)]
-pub extern "C" fn bisquecrow_finish(
-    head: &mut [u64],
-    table: &mut [u32],
-    block: &[u8],
-    store: &mut [u8],
-) -> u32
+pub fn bisquecrow_finish(head: &mut [u64], table: &mut [u32], block: &[u8], store: &mut [u8]) -> u32
     ensures { Gave (finish_gives head.old table.old block.now store.old) result [] head.new table.new block.now store.new }
 {
     if lent::is_sound(head, table) {
@@ -85,13 +77,7 @@ pub extern "C" fn bisquecrow_finish(
 }
 
 // Makes a map an empty one that is Done.
-#[unsafe(no_mangle)]
-pub extern "C" fn bisquecrow_clear(
-    head: &mut [u64],
-    table: &[u32],
-    block: &[u8],
-    store: &[u8],
-) -> u32
+pub fn bisquecrow_clear(head: &mut [u64], table: &[u32], block: &[u8], store: &[u8]) -> u32
     ensures { Gave (clear_gives head.old table.now block.now store.now) result [] head.new table.now block.now store.now }
 {
     if lent::is_sound(head, table) {

@@ -21,8 +21,7 @@ fn put_code(c: Code, code: &mut u64)
 }
 
 // The status code.
-#[unsafe(no_mangle)]
-pub extern "C" fn bisquecrow_status_code<'a>(
+pub fn bisquecrow_status_code<'a>(
     head: &[u64],
     table: &[u32],
     block: &'a [u8],
@@ -53,8 +52,7 @@ fn put_length(l: Length, length: &mut u64)
 }
 
 // The content length of the first field of that name.
-#[unsafe(no_mangle)]
-pub extern "C" fn bisquecrow_content_length<'a>(
+pub fn bisquecrow_content_length<'a>(
     head: &[u64],
     table: &[u32],
     block: &'a [u8],
@@ -84,8 +82,7 @@ fn put_type(k: Kind, code: &mut u64)
 }
 
 // The code of a record's type.
-#[unsafe(no_mangle)]
-pub extern "C" fn bisquecrow_record_type<'a>(
+pub fn bisquecrow_record_type<'a>(
     head: &[u64],
     table: &[u32],
     block: &'a [u8],
@@ -104,13 +101,7 @@ pub extern "C" fn bisquecrow_record_type<'a>(
 }
 
 // Whether what a map says is clean.
-#[unsafe(no_mangle)]
-pub extern "C" fn bisquecrow_clean<'a>(
-    head: &[u64],
-    table: &[u32],
-    block: &'a [u8],
-    store: &'a [u8],
-) -> u32
+pub fn bisquecrow_clean<'a>(head: &[u64], table: &[u32], block: &'a [u8], store: &'a [u8]) -> u32
     ensures { result ≡ clean_tells head.now table.now block.now store.now }
 {
     if lent::is_sound(head, table) {
@@ -122,8 +113,7 @@ pub extern "C" fn bisquecrow_clean<'a>(
 }
 
 // Whether a block is tidy for its flags and limit.
-#[unsafe(no_mangle)]
-pub extern "C" fn bisquecrow_tidy(octets: &[u8], awaits: bool, quirks: bool, limit: usize) -> u32
+pub fn bisquecrow_tidy(octets: &[u8], awaits: bool, quirks: bool, limit: usize) -> u32
     ensures { result ≡ tidy_tells octets.now awaits quirks limit }
 {
     let t = tidy::tidy(octets, awaits, quirks, limit);
@@ -131,8 +121,7 @@ pub extern "C" fn bisquecrow_tidy(octets: &[u8], awaits: bool, quirks: bool, lim
 }
 
 // Whether octets are a header by the standard's grammar.
-#[unsafe(no_mangle)]
-pub extern "C" fn bisquecrow_grammatical(octets: &[u8]) -> u32
+pub fn bisquecrow_grammatical(octets: &[u8]) -> u32
     ensures { result ≡ grammar_tells octets.now }
 {
     if grammar::grammatical(octets) {
@@ -142,8 +131,7 @@ pub extern "C" fn bisquecrow_grammatical(octets: &[u8]) -> u32
 }
 
 // Whether two maps say the same. The first is checked whole before the second.
-#[unsafe(no_mangle)]
-pub extern "C" fn bisquecrow_equal<'a>(
+pub fn bisquecrow_equal<'a>(
     head: &[u64],
     table: &[u32],
     block: &'a [u8],
@@ -170,8 +158,7 @@ pub extern "C" fn bisquecrow_equal<'a>(
 }
 
 // Whether the second message's body may be appended to the first's.
-#[unsafe(no_mangle)]
-pub extern "C" fn bisquecrow_resume<'a>(
+pub fn bisquecrow_resume<'a>(
     head: &[u64],
     table: &[u32],
     block: &'a [u8],

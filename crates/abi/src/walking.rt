@@ -7,8 +7,7 @@ use lent::heads;
 use walker::Step;
 
 // Makes the numbers a walker at a position, whatever they were; refused, they stay.
-#[unsafe(no_mangle)]
-pub extern "C" fn bisquecrow_walker(
+pub fn bisquecrow_walker(
     trail: &mut [u64],
     head: &mut [u64],
     table: &[u32],
@@ -57,8 +56,7 @@ fn put_record(step: Step, record: &mut [u64; 4])
 }
 
 // Walks over a piece of the file.
-#[unsafe(no_mangle)]
-pub extern "C" fn bisquecrow_walk(
+pub fn bisquecrow_walk(
     trail: &mut [u64],
     head: &mut [u64],
     table: &mut [u32],
@@ -92,8 +90,7 @@ pub extern "C" fn bisquecrow_walk(
 }
 
 // Tells a walker that the file has ended.
-#[unsafe(no_mangle)]
-pub extern "C" fn bisquecrow_end(
+pub fn bisquecrow_end(
     trail: &mut [u64],
     head: &mut [u64],
     table: &[u32],

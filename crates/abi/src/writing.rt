@@ -18,8 +18,7 @@ fn put_count(w: Wrote, count: &mut u64)
 }
 
 // The block as it was read, or the map rebuilt.
-#[unsafe(no_mangle)]
-pub extern "C" fn bisquecrow_write<'a>(
+pub fn bisquecrow_write<'a>(
     head: &[u64],
     table: &[u32],
     block: &'a [u8],
@@ -39,8 +38,7 @@ pub extern "C" fn bisquecrow_write<'a>(
 }
 
 // The map rebuilt, whatever it was read from.
-#[unsafe(no_mangle)]
-pub extern "C" fn bisquecrow_rebuild<'a>(
+pub fn bisquecrow_rebuild<'a>(
     head: &[u64],
     table: &[u32],
     block: &'a [u8],
