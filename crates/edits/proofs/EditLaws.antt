@@ -1,5 +1,5 @@
 -- What an edit gives, case by case. Assumes nothing.
-use mathlib.Core.Path.{◌≡◌, refl, sym, ap, subst, ◌∙◌}
+use mathlib.Core.Path.{◌≡◌, refl, sym, ap, ◌∙◌}
 use mathlib.Core.Bool.{Bool, true, false, ◌||◌}
 use mathlib.Core.List.{List, ◌++◌}
 use Prim.Native.Nat.{ℕ, ◌+◌, ◌-◌, ◌≤◌, ◌<◌}
@@ -24,7 +24,6 @@ use Rattle.maps.proofs.GoodLaws.{goes_on, refused_by}
 use Rattle.lookups.specs.Lookups.{named}
 use Rattle.edits.specs.declared.Edit.TheVariants.{Done, Refused}
 use Rattle.edits.specs.declared.Edited.{Edited}
-use Rattle.edits.specs.declared.Plan.{Plan}
 use Rattle.edits.specs.declared.Plan.TheVariants.{Put, Refused as NotPut}
 use Rattle.edits.specs.declared.tables.Kept.{Kept}
 use Rattle.edits.specs.Fields.{first_at, put_at, laid}

@@ -6,7 +6,7 @@ use Prim.Native.Nat.{ℕ, ◌+◌, ◌-◌, ◌≤◌, ◌<◌}
 use native.Mathlib.Omega.{arith}
 use native.Mathlib.Numerals.{add-one}
 use lib.Dec.{ltb}
-use lib.ListN.{length, take, drop, get_or, set, length-append, length-take, length-drop, length-set}
+use lib.ListN.{length, take, drop, get_or, set, length-take, length-set}
 use lib.Seq.{get_or-take, length-take-le, take-take, take-suc-set, drop-set-lt, drop-drop}
 use Rattle.leaves.specs.Paste.{pasted}
 use Rattle.leaves.proofs.ChoiceLaws.{by_if, if_true, if_false}

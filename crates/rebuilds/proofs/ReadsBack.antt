@@ -9,10 +9,10 @@ use native.Mathlib.Omega.{arith}
 use lib.ListN.{length, length-append}
 use Rattle.leaves.proofs.ChoiceLaws.{and_left, and_right}
 use Rattle.leaves.proofs.TrimTexts.{trim_line, first_solid}
-use Rattle.line_reader.specs.Reading.{Rules, Reading, fed, begun}
+use Rattle.line_reader.specs.Reading.{Rules, fed, begun}
 use Rattle.maps.specs.Said.{Pair, Said}
 use Rattle.readings.specs.Heard.{Hearing}
-use Rattle.readings.specs.Listening.{Listening, silent, listening, said}
+use Rattle.readings.specs.Listening.{Listening, silent, listening}
 use Rattle.readings.proofs.HeardLaws.{hearing, between, over, heard_status, no_end, line_on, blank_listened}
 use Rattle.readings.proofs.ListeningLaws.{Listens, begun_listens, fed_whole}
 use Rattle.writes.specs.Written.{crlf, status_line, pair_lines, rebuilt}

@@ -1,13 +1,12 @@
 -- What a map says once a text stands at the mark of its store and it has other fields or another status. Assumes nothing.
-use mathlib.Core.Path.{◌≡◌, refl, sym, ap, ◌∙◌}
+use mathlib.Core.Path.{◌≡◌, sym, ap, ◌∙◌}
 use mathlib.Core.Bool.{Bool}
 use mathlib.Core.List.{List, [], ◌∷◌, ◌++◌, map, map-append, append-nil}
 use Prim.Native.Nat.{ℕ, ◌+◌, ◌≤◌}
 use native.Mathlib.Nat.{add-zero}
 use native.Mathlib.Omega.{arith}
-use lib.ListN.{length, take, drop}
-use lib.Seq.{take_at}
-use Rattle.leaves.specs.Paste.{lay, pasted}
+use lib.ListN.{length}
+use Rattle.leaves.specs.Paste.{pasted}
 use Rattle.leaves.proofs.LayLaws.{lay_take}
 use Rattle.maps.specs.Places.{part}
 use Rattle.maps.specs.Good.{live, checked_done}

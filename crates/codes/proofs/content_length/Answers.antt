@@ -1,11 +1,9 @@
 -- `codes::content_length` meets its contract. Assumes nothing.
-use borrow.Author.Rules.{rules}
 use Rattle.codes.proofs.MapLaws.{length_found, length_missing, length_refused}
 use Rattle.lookups.proofs.FoundLaws.{sight_at, sight_value, sight_missing, sight_blind}
 use Rattle.standard.specs.declared.names.WarcHeader.TheVariants.{ContentLength}
 use Rattle.standard.specs.Names.{name_of}
 use mathlib.Core.Path.{sym, ◌∙◌}
-use Prim.Native.Nat.{◌-◌}
 use Rattle.codes.proofs.content_length.Goals as goal
 
 pub returns-in-Sees : goal.returns-in-Sees

@@ -1,9 +1,7 @@
 -- `codes::has_reason` meets its contract. Assumes nothing.
 use Rattle.codes.proofs.MapLaws.{phrase_stands, phrase_none, phrase_refused}
 use Rattle.codes.proofs.LineLaws.{told_at, told_none}
-use borrow.Author.Rules.{rules}
 use mathlib.Core.Path.{sym, ◌∙◌}
-use Prim.Native.Nat.{◌-◌}
 use Rattle.codes.proofs.has_reason.Goals as goal
 
 pub returns-in-Begins : goal.returns-in-Begins

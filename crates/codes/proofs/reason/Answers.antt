@@ -1,11 +1,7 @@
 -- `codes::reason` meets its contract. Assumes nothing.
-use Rattle.codes.proofs.MapLaws.{phrased_at, phrased_none}
-use Rattle.codes.proofs.LineLaws.{told_at, told_none, start_within}
-use Rattle.leaves.proofs.PasteLaws.{tail_all}
-use borrow.Author.Rules.{rules}
+use Rattle.codes.proofs.LineLaws.{told_at, start_within}
 use native.Mathlib.Omega.{arith}
-use mathlib.Core.Path.{refl, sym, ◌∙◌}
-use Prim.Native.Nat.{◌-◌}
+use mathlib.Core.Path.{sym, ◌∙◌}
 use Rattle.codes.proofs.reason.Goals as goal
 
 pub slice_bounds-result-count : goal.slice_bounds-result-count

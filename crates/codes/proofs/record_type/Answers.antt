@@ -1,11 +1,9 @@
 -- `codes::record_type` meets its contract. Assumes nothing.
-use borrow.Author.Rules.{rules}
 use Rattle.codes.proofs.MapLaws.{kind_found, kind_missing, kind_refused}
 use Rattle.lookups.proofs.FoundLaws.{sight_at, sight_value, sight_missing, sight_blind}
 use Rattle.standard.specs.declared.names.WarcHeader.TheVariants.{WarcType}
 use Rattle.standard.specs.Names.{name_of}
 use mathlib.Core.Path.{sym, ◌∙◌}
-use Prim.Native.Nat.{◌-◌}
 use Rattle.codes.proofs.record_type.Goals as goal
 
 pub returns-in-Sees : goal.returns-in-Sees

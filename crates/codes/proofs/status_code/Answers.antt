@@ -1,8 +1,6 @@
 -- `codes::status_code` meets its contract. Assumes nothing.
 use Rattle.codes.proofs.MapLaws.{code_fine, code_refused}
-use borrow.Author.Rules.{rules}
 use mathlib.Core.Path.{sym, ◌∙◌}
-use Prim.Native.Nat.{◌-◌}
 use Rattle.codes.proofs.status_code.Goals as goal
 
 pub returns-in-Fine : goal.returns-in-Fine

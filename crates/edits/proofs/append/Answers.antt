@@ -1,10 +1,7 @@
 -- `edits::append` meets its contract. Assumes nothing.
 use Rattle.edits.specs.Edits.{appending}
 use Rattle.edits.proofs.EditLaws.{is_by, edit_refused, append_is}
-use borrow.Author.Rules.{rules}
-use native.Mathlib.Omega.{arith}
 use mathlib.Core.Path.{sym, ◌∙◌}
-use Prim.Native.Nat.{◌-◌}
 use Rattle.edits.proofs.append.Goals as goal
 
 pub returns-in-Fine : goal.returns-in-Fine

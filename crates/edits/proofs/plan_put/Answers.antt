@@ -1,10 +1,6 @@
 -- `edits::plan_put` meets its contract. Assumes nothing.
-use borrow.Author.Rules.{rules}
-use borrow.Author.Tests.{leb-true}
-use native.Mathlib.Omega.{arith}
 use mathlib.Core.Path.{◌≡◌, sym, ap, ◌∙◌}
 use mathlib.Core.Bool.{true, false}
-use Prim.Native.Nat.{◌+◌, ◌-◌, ◌≤◌}
 use lib.ListN.{length}
 use Rattle.leaves.specs.Sanitise.{sanitised}
 use Rattle.edits.specs.declared.Plan.TheVariants.{Put}

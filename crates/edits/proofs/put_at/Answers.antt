@@ -1,8 +1,6 @@
 -- `edits::put_at` meets its contract. Assumes nothing.
-use borrow.Author.Rules.{rules}
 use native.Mathlib.Omega.{arith}
 use mathlib.Core.Path.{sym, ◌∙◌}
-use lib.ListN.{length-map}
 use Rattle.maps.proofs.GoodLaws.{ready_of}
 use Rattle.edits.proofs.EditLaws.{plan_of, put_refused, put_done}
 use Rattle.edits.proofs.put_at.Goals as goal

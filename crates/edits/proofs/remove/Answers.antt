@@ -4,7 +4,6 @@ use Rattle.edits.specs.Edits.{removing}
 use Rattle.edits.proofs.EditLaws.{edit_refused, remove_is}
 use borrow.Author.Rules.{rules}
 use mathlib.Core.Path.{sym, ◌∙◌}
-use Prim.Native.Nat.{◌-◌}
 use Rattle.edits.proofs.remove.Goals as goal
 
 pub compact-kept-requires : goal.compact-kept-requires

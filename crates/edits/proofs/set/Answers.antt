@@ -2,9 +2,7 @@
 use Rattle.maps.proofs.GoodLaws.{ready_of}
 use Rattle.edits.specs.Edits.{setting}
 use Rattle.edits.proofs.EditLaws.{is_by, edit_refused, set_is}
-use borrow.Author.Rules.{rules}
 use mathlib.Core.Path.{sym, ◌∙◌}
-use Prim.Native.Nat.{◌-◌}
 use Rattle.edits.proofs.set.Goals as goal
 
 pub first_at-at-requires : goal.first_at-at-requires

@@ -3,11 +3,10 @@ use Rattle.leaves.specs.Sanitise.{sanitised}
 use Rattle.maps.proofs.GoodLaws.{ready_of}
 use Rattle.edits.specs.Edits.{statusing}
 use Rattle.edits.proofs.EditLaws.{edit_refused, status_room, status_done}
-use borrow.Author.Rules.{rules}
 use native.Mathlib.Omega.{arith}
 use mathlib.Core.Path.{◌≡◌, sym, ◌∙◌}
 use mathlib.Core.Bool.{true}
-use Prim.Native.Nat.{◌+◌, ◌-◌, ◌≤◌, ◌<◌}
+use Prim.Native.Nat.{◌+◌, ◌≤◌, ◌<◌}
 use lib.ListN.{length}
 use Rattle.edits.proofs.set_status.Goals as goal
 

@@ -1,11 +1,10 @@
 -- `edits::write_both` meets its contract. Assumes nothing.
 use Rattle.leaves.specs.Sanitise.{sanitised}
 use Rattle.leaves.proofs.PasteLaws.{pasted_more}
-use borrow.Author.Rules.{rules}
 use native.Mathlib.Omega.{arith}
 use mathlib.Core.Path.{◌∙◌}
 use mathlib.Core.Bool.{true, false}
-use Prim.Native.Nat.{◌+◌, ◌-◌, ◌≤◌}
+use Prim.Native.Nat.{◌+◌, ◌≤◌}
 use lib.ListN.{length}
 use Rattle.edits.proofs.write_both.Goals as goal
 

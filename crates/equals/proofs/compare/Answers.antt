@@ -1,10 +1,7 @@
 -- `equals::compare` meets its contract. Assumes nothing.
-use lib.ListN.{length-map}
 use Rattle.maps.proofs.GoodLaws.{ready_of}
 use Rattle.equals.proofs.CompareLaws.{first_refused, second_refused, status_differs, counts_differ, same_yes, same_no}
-use borrow.Author.Rules.{rules}
 use mathlib.Core.Path.{sym, ◌∙◌}
-use Prim.Native.Nat.{◌-◌}
 use Rattle.equals.proofs.compare.Goals as goal
 
 pub same_fields-requires : goal.same_fields-requires

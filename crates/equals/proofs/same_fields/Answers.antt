@@ -1,14 +1,11 @@
 -- `equals::same_fields` meets its contract. Assumes nothing.
 use Rattle.equals.proofs.OctetLaws.{same_by}
-use mathlib.Core.List.{map}
-use Rattle.maps.specs.Said.{pair_at}
-use Rattle.equals.specs.Equal.{same_pairs}
 use Rattle.equals.proofs.PairLaws.{pairs_more, keys_differ, values_differ, pairs_end}
 use borrow.Author.Rules.{rules}
 use native.Mathlib.Omega.{arith}
-use mathlib.Core.Path.{◌≡◌, refl, sym, ◌∙◌}
-use Prim.Native.Nat.{◌-◌, ◌≤◌, ◌<◌}
-use lib.ListN.{length, take, drop}
+use mathlib.Core.Path.{sym, ◌∙◌}
+use Prim.Native.Nat.{◌≤◌, ◌<◌}
+use lib.ListN.{length}
 use Rattle.equals.proofs.same_fields.Goals as goal
 
 pub loop-i-preserved : goal.loop-i-preserved

@@ -1,14 +1,10 @@
 -- `equals::same_fields` meets its contract. Assumes nothing.
-use Rattle.equals.proofs.OctetLaws.{same_by}
 use mathlib.Core.List.{map}
 use Rattle.maps.specs.Said.{pair_at}
 use Rattle.equals.specs.Equal.{same_pairs}
-use Rattle.equals.proofs.PairLaws.{pairs_more, keys_differ, values_differ, pairs_end}
-use borrow.Author.Rules.{rules}
-use native.Mathlib.Omega.{arith}
-use mathlib.Core.Path.{◌≡◌, refl, sym, ◌∙◌}
-use Prim.Native.Nat.{◌-◌, ◌≤◌, ◌<◌}
-use lib.ListN.{length, take, drop}
+use mathlib.Core.Path.{◌≡◌}
+use Prim.Native.Nat.{◌-◌, ◌≤◌}
+use lib.ListN.{take, drop}
 use Rattle.equals.proofs.same_fields.Given as goal
 
 abbrev pub invariant-loop-i : goal.invariant-loop-i

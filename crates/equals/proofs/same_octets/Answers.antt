@@ -1,12 +1,9 @@
 -- `equals::same_octets` meets its contract. Assumes nothing.
-use Rattle.leaves.specs.Octets.{same_list}
 use Rattle.equals.proofs.OctetLaws.{same_more, same_stop, same_end}
 use Rattle.leaves.proofs.NameLaws.{apart}
 use borrow.Author.Rules.{rules}
 use native.Mathlib.Omega.{arith}
-use mathlib.Core.Path.{◌≡◌, refl, sym, ◌∙◌}
-use Prim.Native.Nat.{◌-◌, ◌≤◌}
-use lib.ListN.{length, drop}
+use mathlib.Core.Path.{sym, ◌∙◌}
 use Rattle.equals.proofs.same_octets.Goals as goal
 
 pub returns-then-a-b : goal.returns-then-a-b

@@ -1,10 +1,6 @@
 -- `equals::same_octets` meets its contract. Assumes nothing.
 use Rattle.leaves.specs.Octets.{same_list}
-use Rattle.equals.proofs.OctetLaws.{same_more, same_stop, same_end}
-use Rattle.leaves.proofs.NameLaws.{apart}
-use borrow.Author.Rules.{rules}
-use native.Mathlib.Omega.{arith}
-use mathlib.Core.Path.{◌≡◌, refl, sym, ◌∙◌}
+use mathlib.Core.Path.{◌≡◌}
 use Prim.Native.Nat.{◌-◌, ◌≤◌}
 use lib.ListN.{length, drop}
 use Rattle.equals.proofs.same_octets.Given as goal

@@ -1,7 +1,5 @@
 -- `equals::same_status` meets its contract. Assumes nothing.
 use Rattle.equals.proofs.PairLaws.{both_none, second_some, first_some, both_some}
-use borrow.Author.Rules.{rules}
-use Prim.Native.Nat.{◌-◌}
 use Rattle.equals.proofs.same_status.Goals as goal
 
 pub returns-in-Absent-y : goal.returns-in-Absent-y

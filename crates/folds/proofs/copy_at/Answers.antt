@@ -1,7 +1,5 @@
 -- `folds::copy_at` meets its contract. Assumes nothing.
-use borrow.Author.Rules.{rules}
 use native.Mathlib.Omega.{arith}
-use Prim.Native.Nat.{◌-◌}
 use lib.ListN.{length}
 use Rattle.leaves.proofs.PasteLaws.{part_back}
 use Rattle.folds.proofs.copy_at.Goals as goal

@@ -1,9 +1,5 @@
 -- `folds::copy_within` meets its contract. Assumes nothing.
-use borrow.Author.Rules.{rules}
-use native.Mathlib.Omega.{arith}
-use mathlib.Core.Path.{◌≡◌, refl}
-use Prim.Native.Nat.{◌-◌}
-use Rattle.folds.proofs.LineTexts.{Within, within_start, within_step, within_end}
+use Rattle.folds.proofs.LineTexts.{within_step, within_end}
 use Rattle.folds.proofs.copy_within.Goals as goal
 
 pub loop-i-preserved : goal.loop-i-preserved

@@ -1,9 +1,7 @@
 -- `folds::copy_within` meets its contract. Assumes nothing.
-use borrow.Author.Rules.{rules}
-use native.Mathlib.Omega.{arith}
-use mathlib.Core.Path.{◌≡◌, refl}
+use mathlib.Core.Path.{◌≡◌}
 use Prim.Native.Nat.{◌-◌}
-use Rattle.folds.proofs.LineTexts.{Within, within_start, within_step, within_end}
+use Rattle.folds.proofs.LineTexts.{Within}
 use Rattle.folds.proofs.copy_within.Given as goal
 
 abbrev pub invariant-loop-i : goal.invariant-loop-i

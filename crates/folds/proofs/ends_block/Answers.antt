@@ -1,7 +1,5 @@
 -- `folds::ends_block` meets its contract. Assumes nothing.
-use borrow.Author.Rules.{rules}
 use mathlib.Core.Path.{sym, ap, ◌∙◌}
-use Prim.Native.Nat.{◌-◌}
 use lib.Dec.{eqb}
 use Rattle.leaves.specs.declared.trims.Span.{Span}
 use Rattle.leaves.proofs.ChoiceLaws.{if_true, if_false}

@@ -1,10 +1,7 @@
 -- `folds::fold_line` meets its contract. Assumes nothing.
-use borrow.Author.Rules.{rules}
-use native.Mathlib.Omega.{arith}
 use mathlib.Core.Path.{sym, ◌∙◌}
-use Prim.Native.Nat.{◌-◌, ◌<◌}
-use lib.ListN.{take, drop, length-drop, length-take}
-use Rattle.folds.proofs.GrowLaws.{folded_first, folded_block, folded_here, folded_again, block_fits, store_fits}
+use lib.ListN.{take}
+use Rattle.folds.proofs.GrowLaws.{folded_first, folded_block, folded_here, folded_again}
 use Rattle.folds.proofs.fold_line.Goals as goal
 
 pub returns-then-fields-eq0 : goal.returns-then-fields-eq0

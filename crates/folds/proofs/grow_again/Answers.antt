@@ -1,11 +1,10 @@
 -- `folds::grow_again` meets its contract. Assumes nothing.
 use Rattle.folds.proofs.GrowLaws.{part_long}
 use Rattle.maps.specs.Places.{part}
-use borrow.Author.Rules.{rules}
 use native.Mathlib.Omega.{arith}
 use mathlib.Core.Path.{sym}
 use mathlib.Core.List.{◌∷◌, ◌++◌}
-use Prim.Native.Nat.{◌+◌, ◌-◌, ◌≤◌}
+use Prim.Native.Nat.{◌≤◌}
 use lib.ListN.{length}
 use Rattle.folds.proofs.GrowLaws.{grown_full, grown_fits, grow_twice, length_joined}
 use Rattle.maps.proofs.TextLaws.{part_cut}

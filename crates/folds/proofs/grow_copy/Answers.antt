@@ -1,9 +1,7 @@
 -- `folds::grow_copy` meets its contract. Assumes nothing.
-use borrow.Author.Rules.{rules}
 use native.Mathlib.Omega.{arith}
 use mathlib.Core.Path.{refl}
 use mathlib.Core.List.{◌∷◌, ◌++◌}
-use Prim.Native.Nat.{◌+◌, ◌-◌}
 use Rattle.folds.proofs.GrowLaws.{grown_full, grown_fits, grow_twice, length_joined}
 use Rattle.folds.proofs.grow_copy.Goals as goal
 

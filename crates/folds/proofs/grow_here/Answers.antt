@@ -1,8 +1,6 @@
 -- `folds::grow_here` meets its contract. Assumes nothing.
-use borrow.Author.Rules.{rules}
 use native.Mathlib.Omega.{arith}
 use mathlib.Core.List.{◌∷◌}
-use Prim.Native.Nat.{◌-◌}
 use Rattle.folds.proofs.GrowLaws.{grown_full, grown_fits}
 use Rattle.folds.proofs.grow_here.Goals as goal
 

@@ -1,8 +1,6 @@
 -- `folds::grow_new` meets its contract. Assumes nothing.
-use borrow.Author.Rules.{rules}
 use native.Mathlib.Omega.{arith}
 use mathlib.Core.Path.{refl}
-use Prim.Native.Nat.{◌-◌}
 use Rattle.folds.proofs.GrowLaws.{grown_full, grown_fits}
 use Rattle.folds.proofs.grow_new.Goals as goal
 

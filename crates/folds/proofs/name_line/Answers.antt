@@ -1,12 +1,8 @@
 -- `folds::name_line` meets its contract. Assumes nothing.
 use Rattle.folds.proofs.GrowLaws.{split_put, split_full, split_none}
-use lib.Seq.{length-take-le}
 use Rattle.leaves.proofs.PasteLaws.{tail_all}
-use borrow.Author.Rules.{rules}
-use native.Mathlib.Omega.{arith}
-use mathlib.Core.Path.{sym, ◌∙◌}
-use Prim.Native.Nat.{◌+◌, ◌-◌}
-use lib.ListN.{length-take}
+use mathlib.Core.Path.{◌∙◌}
+use Prim.Native.Nat.{◌+◌}
 use Rattle.folds.proofs.name_line.Goals as goal
 
 pub returns-then-fields-lt256 : goal.returns-then-fields-lt256

@@ -1,9 +1,6 @@
 -- `folds::put_tail` meets its contract. Assumes nothing.
-use borrow.Author.Rules.{rules}
 use native.Mathlib.Omega.{arith}
 use mathlib.Core.Path.{◌∙◌}
-use Prim.Native.Nat.{◌-◌}
-use lib.ListN.{length-set}
 use Rattle.folds.proofs.GrowLaws.{tail_pasted}
 use Rattle.folds.proofs.put_tail.Goals as goal
 

@@ -1,10 +1,6 @@
 -- `folds::rule_four` meets its contract. Assumes nothing.
-use Rattle.leaves.specs.Trim.{trim_end, trim_start}
-use borrow.Author.Rules.{rules}
-use native.Mathlib.Omega.{arith}
 use mathlib.Core.Path.{◌≡◌, sym, ◌∙◌}
-use Prim.Native.Nat.{◌-◌}
-use lib.ListN.{length, take, drop, length-drop, length-take}
+use lib.ListN.{length, take}
 use Rattle.folds.proofs.GrowLaws.{rule4_head, rule4_fold, rule4_split, plain_change}
 use lib.Seq.{length-take-le}
 use Rattle.leaves.proofs.PasteLaws.{tail_all}

@@ -1,12 +1,11 @@
 -- `grammar::are_fields` meets its contract. Assumes nothing.
-use Rattle.grammar.specs.declared.Stage.TheVariants.{First}
-use Rattle.grammar.specs.Walk.{next, walk}
+use Rattle.grammar.specs.Walk.{walk}
 use Rattle.grammar.proofs.StageLaws.{walk_more, walk_end}
 use borrow.Author.Rules.{rules}
 use native.Mathlib.Omega.{arith}
-use mathlib.Core.Path.{◌≡◌, refl, sym, ap, ◌∙◌}
-use Prim.Native.Nat.{◌+◌, ◌-◌, ◌≤◌}
-use lib.ListN.{length, drop}
+use mathlib.Core.Path.{sym, ap, ◌∙◌}
+use Prim.Native.Nat.{◌+◌}
+use lib.ListN.{drop}
 use Rattle.grammar.proofs.are_fields.Goals as goal
 
 pub loop-i-preserved : goal.loop-i-preserved

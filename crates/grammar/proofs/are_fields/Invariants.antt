@@ -1,11 +1,8 @@
 -- `grammar::are_fields` meets its contract. Assumes nothing.
 use Rattle.grammar.specs.declared.Stage.TheVariants.{First}
-use Rattle.grammar.specs.Walk.{next, walk}
-use Rattle.grammar.proofs.StageLaws.{walk_more, walk_end}
-use borrow.Author.Rules.{rules}
-use native.Mathlib.Omega.{arith}
-use mathlib.Core.Path.{◌≡◌, refl, sym, ap, ◌∙◌}
-use Prim.Native.Nat.{◌+◌, ◌-◌, ◌≤◌}
+use Rattle.grammar.specs.Walk.{walk}
+use mathlib.Core.Path.{◌≡◌}
+use Prim.Native.Nat.{◌-◌, ◌≤◌}
 use lib.ListN.{length, drop}
 use Rattle.grammar.proofs.are_fields.Given as goal
 

@@ -1,8 +1,6 @@
 -- `grammar::fold_line` meets its contract. Assumes nothing.
-use borrow.Author.Rules.{rules}
 use borrow.Author.Tests.{eq-eqb, ne_eqb}
 use mathlib.Core.Path.{sym, ◌∙◌}
-use Prim.Native.Nat.{◌-◌}
 use Rattle.leaves.proofs.ChoiceLaws.{if_true, if_false}
 use Rattle.grammar.specs.Walk.{folded}
 use Rattle.grammar.proofs.fold_line.Goals as goal

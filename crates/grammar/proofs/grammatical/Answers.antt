@@ -3,9 +3,7 @@ use Rattle.grammar.specs.declared.Stage.TheVariants.{First}
 use Rattle.grammar.specs.Walk.{walk}
 use Rattle.grammar.proofs.StageLaws.{short, unversioned, versioned}
 use Rattle.leaves.proofs.PasteLaws.{tail_all}
-use borrow.Author.Rules.{rules}
 use mathlib.Core.Path.{sym, ap, ◌∙◌}
-use Prim.Native.Nat.{◌-◌}
 use Rattle.grammar.proofs.grammatical.Goals as goal
 
 pub returns-then-octets-lt10 : goal.returns-then-octets-lt10

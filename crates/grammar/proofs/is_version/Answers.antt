@@ -1,7 +1,5 @@
 -- `grammar::is_version` meets its contract. Assumes nothing.
-use borrow.Author.Rules.{rules}
 use mathlib.Core.Path.{sym, ◌∙◌}
-use Prim.Native.Nat.{◌-◌}
 use Rattle.grammar.proofs.StageLaws.{first_version, second_version}
 use Rattle.grammar.proofs.is_version.Goals as goal
 

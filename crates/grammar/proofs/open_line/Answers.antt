@@ -1,8 +1,6 @@
 -- `grammar::open_line` meets its contract. Assumes nothing.
-use borrow.Author.Rules.{rules}
 use borrow.Author.Tests.{eq-eqb, ne_eqb}
 use mathlib.Core.Path.{sym, ◌∙◌}
-use Prim.Native.Nat.{◌-◌}
 use Rattle.leaves.proofs.ChoiceLaws.{if_true, if_false}
 use Rattle.grammar.specs.Walk.{opened}
 use Rattle.grammar.proofs.open_line.Goals as goal

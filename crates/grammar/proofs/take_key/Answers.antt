@@ -1,8 +1,6 @@
 -- `grammar::take_key` meets its contract. Assumes nothing.
-use borrow.Author.Rules.{rules}
 use borrow.Author.Tests.{eq-eqb, ne_eqb}
 use mathlib.Core.Path.{sym, ◌∙◌}
-use Prim.Native.Nat.{◌-◌}
 use Rattle.leaves.proofs.ChoiceLaws.{if_true, if_false}
 use Rattle.grammar.specs.Walk.{keyed}
 use Rattle.grammar.proofs.take_key.Goals as goal

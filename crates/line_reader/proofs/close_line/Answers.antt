@@ -1,5 +1,4 @@
 -- `line_reader::close_line` meets its contract. Assumes nothing.
-use borrow.Author.Rules.{rules}
 use mathlib.Core.Path.{refl, sym, ap, ◌∙◌}
 use Rattle.leaves.specs.Octets.{before}
 use Rattle.line_reader.proofs.HandlingLaws.{fold_ready, slot_few, is_handled, line_cut, ended_blank, ended_on}

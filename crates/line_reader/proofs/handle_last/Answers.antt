@@ -1,7 +1,6 @@
 -- `line_reader::handle_last` meets its contract. Assumes nothing.
-use borrow.Author.Rules.{rules}
 use mathlib.Core.Path.{refl}
-use Rattle.line_reader.proofs.HandlingLaws.{fold_ready, slot_few, is_handled, last_left, last_none}
+use Rattle.line_reader.proofs.HandlingLaws.{slot_few, is_handled, last_left, last_none}
 use Rattle.line_reader.proofs.handle_last.Goals as goal
 
 pub handled_by-requires : goal.handled_by-requires

@@ -1,8 +1,6 @@
 -- `line_reader::handle_next` meets its contract. Assumes nothing.
-use borrow.Author.Rules.{rules}
-use native.Mathlib.Omega.{arith}
 use mathlib.Core.Path.{refl}
-use Rattle.line_reader.proofs.HandlingLaws.{next_handled_by, more_able, read_more, lies}
+use Rattle.line_reader.proofs.HandlingLaws.{next_handled_by, more_able, lies}
 use Rattle.line_reader.proofs.handle_next.Goals as goal
 
 pub close_line-requires : goal.close_line-requires

@@ -1,10 +1,8 @@
 -- `lines::any_in_64` meets its contract. Assumes nothing.
 use borrow.Author.Rules.{rules}
 use native.Mathlib.Omega.{arith}
-use mathlib.Core.Path.{◌≡◌, sym, ◌∙◌}
-use Prim.Native.Nat.{◌-◌, ◌≤◌}
-use lib.ListN.{take, drop}
-use Rattle.leaves.specs.Octets.{has, before}
+use mathlib.Core.Path.{sym, ◌∙◌}
+use lib.ListN.{drop}
 use Rattle.leaves.proofs.SearchLaws.{has_none, has_next}
 use Rattle.lines.proofs.any_in_64.Goals as goal
 

@@ -1,11 +1,8 @@
 -- `lines::before_in_64` meets its contract. Assumes nothing.
-use borrow.Author.Rules.{rules}
 use native.Mathlib.Omega.{arith}
 use mathlib.Core.Path.{ap, ◌∙◌}
-use Prim.Native.Nat.{◌-◌}
-use lib.ListN.{drop}
 use Prim.Native.Nat.{max}
-use Rattle.lines.proofs.ScanLaws.{Scanning, scan_start, scan_step, scan_most, scan_end}
+use Rattle.lines.proofs.ScanLaws.{scan_step, scan_end}
 use Rattle.lines.proofs.before_in_64.Goals as goal
 
 pub loop-j-preserved : goal.loop-j-preserved

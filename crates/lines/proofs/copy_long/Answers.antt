@@ -1,9 +1,8 @@
 -- `lines::copy_long` meets its contract. Assumes nothing.
-use borrow.Author.Rules.{rules}
 use native.Mathlib.Omega.{arith}
 use Prim.Native.Nat.{◌-◌}
 use lib.ListN.{length}
-use Rattle.leaves.proofs.PasteLaws.{Copying, copy_start, copy_group, copy_end}
+use Rattle.leaves.proofs.PasteLaws.{copy_group, copy_end}
 use Rattle.lines.proofs.copy_long.Goals as goal
 
 pub loop-i-preserved : goal.loop-i-preserved

@@ -1,5 +1,4 @@
 -- `lines::copy_middle` meets its contract. Assumes nothing.
-use borrow.Author.Rules.{rules}
 use native.Mathlib.Omega.{arith}
 use Prim.Native.Nat.{◌-◌, ◌≤◌, ◌<◌}
 use lib.ListN.{length}

@@ -1,11 +1,7 @@
 -- `lines::copy_short` meets its contract. Assumes nothing.
-use borrow.Author.Rules.{rules}
-use native.Mathlib.Omega.{arith}
-use native.Mathlib.Nat.{zero-add}
-use mathlib.Core.Path.{refl, sym}
 use Prim.Native.Nat.{◌-◌}
 use lib.ListN.{length}
-use Rattle.leaves.proofs.PasteLaws.{Copying, copy_start, copy_step, copy_end}
+use Rattle.leaves.proofs.PasteLaws.{Copying}
 use Rattle.lines.proofs.copy_short.Given as goal
 
 abbrev pub invariant-loop-i : goal.invariant-loop-i

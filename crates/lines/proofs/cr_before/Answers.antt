@@ -1,6 +1,4 @@
 -- `lines::cr_before` meets its contract. Assumes nothing.
-use borrow.Author.Rules.{rules}
-use Prim.Native.Nat.{◌-◌}
 use borrow.Author.Tests.{lt-ltb, le-ltb}
 use Rattle.lines.specs.Line.{cr_before}
 use Rattle.lines.proofs.cr_before.Goals as goal

@@ -1,10 +1,5 @@
 -- `lines::fill_line` meets its contract. Assumes nothing.
-use borrow.Author.Rules.{rules}
 use native.Mathlib.Omega.{arith}
-use mathlib.Core.Path.{sym}
-use Prim.Native.Nat.{◌+◌, ◌-◌}
-use lib.ListN.{length, length-take}
-use lib.Seq.{length-take-le}
 use Rattle.lines.proofs.EndLaws.{fill_ended, fill_over, fill_rest}
 use Rattle.lines.proofs.fill_line.Goals as goal
 

@@ -1,10 +1,6 @@
 -- `lines::find_far` meets its contract. Assumes nothing.
-use borrow.Author.Rules.{rules}
 use native.Mathlib.Omega.{arith}
-use mathlib.Core.Path.{sym, ◌∙◌}
-use Prim.Native.Nat.{◌-◌}
 use lib.ListN.{drop}
-use Rattle.leaves.specs.Octets.{before}
 use Rattle.leaves.proofs.SearchLaws.{before_take, pass_end}
 use Rattle.lines.proofs.find_far.Goals as goal
 

@@ -1,10 +1,7 @@
 -- `lines::find_octet` meets its contract. Assumes nothing.
-use borrow.Author.Rules.{rules}
 use native.Mathlib.Omega.{arith}
 use mathlib.Core.Path.{sym, ◌∙◌}
-use Prim.Native.Nat.{◌-◌}
 use lib.ListN.{drop}
-use Rattle.leaves.specs.Octets.{before}
 use Rattle.leaves.proofs.SearchLaws.{before_take, pass_start, pass_more}
 use Rattle.lines.proofs.find_octet.Goals as goal
 

@@ -1,13 +1,10 @@
 -- `lines::next_octet` meets its contract. Assumes nothing.
-use borrow.Author.Rules.{rules}
 use native.Mathlib.Omega.{arith}
 use native.Mathlib.Nat.{add-zero}
 use mathlib.Core.Path.{sym, ap, ◌∙◌}
-use Prim.Native.Nat.{ℕ, ◌+◌, ◌-◌}
-use lib.ListN.{length}
+use Prim.Native.Nat.{ℕ, ◌+◌}
 use borrow.Author.Tests.{ne_eqb}
-use Rattle.leaves.specs.Octets.{before, Passed}
-use Rattle.leaves.proofs.SearchLaws.{before_here, before_not, before_end, pass_start, pass_more}
+use Rattle.leaves.proofs.SearchLaws.{before_here, before_not, before_end, pass_more}
 use Rattle.lines.proofs.next_octet.Goals as goal
 
 pub returns-then-s-i : goal.returns-then-s-i

@@ -1,9 +1,7 @@
 -- `lines::put_sixteen` meets its contract. Assumes nothing.
-use borrow.Author.Rules.{rules}
 use native.Mathlib.Omega.{arith}
 use mathlib.Core.Path.{refl}
-use Prim.Native.Nat.{◌-◌}
-use Rattle.leaves.proofs.PasteLaws.{Copying, copy_start, copy_step, copy_end}
+use Rattle.leaves.proofs.PasteLaws.{copy_step, copy_end}
 use Rattle.lines.proofs.put_sixteen.Goals as goal
 
 pub loop-j-preserved : goal.loop-j-preserved

@@ -1,9 +1,6 @@
 -- `lines::put_sixteen` meets its contract. Assumes nothing.
-use borrow.Author.Rules.{rules}
-use native.Mathlib.Omega.{arith}
-use mathlib.Core.Path.{refl}
 use Prim.Native.Nat.{◌-◌}
-use Rattle.leaves.proofs.PasteLaws.{Copying, copy_start, copy_step, copy_end}
+use Rattle.leaves.proofs.PasteLaws.{Copying}
 use Rattle.lines.proofs.put_sixteen.Given as goal
 
 abbrev pub invariant-loop-j : goal.invariant-loop-j

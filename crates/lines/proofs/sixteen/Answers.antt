@@ -1,10 +1,7 @@
 -- `lines::sixteen` meets its contract. Assumes nothing.
-use borrow.Author.Rules.{rules}
 use native.Mathlib.Omega.{arith}
-use mathlib.Core.Path.{sym, ◌∙◌}
-use Prim.Native.Nat.{◌-◌}
-use lib.ListN.{take, drop}
-use Rattle.leaves.proofs.PasteLaws.{Copying, copy_start, copy_step, copy_end, pasted_over, group_length, group_at}
+use mathlib.Core.Path.{sym}
+use Rattle.leaves.proofs.PasteLaws.{copy_step, group_length, group_at}
 use Rattle.lines.proofs.sixteen.Goals as goal
 
 pub loop-j-preserved : goal.loop-j-preserved

@@ -1,10 +1,7 @@
 -- `lines::sixteen` meets its contract. Assumes nothing.
-use borrow.Author.Rules.{rules}
-use native.Mathlib.Omega.{arith}
-use mathlib.Core.Path.{sym, ◌∙◌}
 use Prim.Native.Nat.{◌-◌}
 use lib.ListN.{take, drop}
-use Rattle.leaves.proofs.PasteLaws.{Copying, copy_start, copy_step, copy_end, pasted_over, group_length, group_at}
+use Rattle.leaves.proofs.PasteLaws.{Copying}
 use Rattle.lines.proofs.sixteen.Given as goal
 
 abbrev pub invariant-loop-j : goal.invariant-loop-j

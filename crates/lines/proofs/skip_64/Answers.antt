@@ -1,12 +1,9 @@
 -- `lines::skip_64` meets its contract. Assumes nothing.
-use borrow.Author.Rules.{rules}
 use native.Mathlib.Omega.{arith}
 use mathlib.Core.Path.{sym, ◌∙◌}
-use Prim.Native.Nat.{◌-◌}
-use lib.ListN.{length, drop}
+use lib.ListN.{drop}
 use lib.ListN.{length-drop}
-use Rattle.leaves.specs.Octets.{Passed}
-use Rattle.leaves.proofs.SearchLaws.{has_near, has_far, pass_start, pass_more}
+use Rattle.leaves.proofs.SearchLaws.{has_near, has_far, pass_more}
 use Rattle.lines.proofs.skip_64.Goals as goal
 
 pub returns-then-any_in_64 : goal.returns-then-any_in_64

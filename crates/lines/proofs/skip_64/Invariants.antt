@@ -1,12 +1,7 @@
 -- `lines::skip_64` meets its contract. Assumes nothing.
-use borrow.Author.Rules.{rules}
-use native.Mathlib.Omega.{arith}
-use mathlib.Core.Path.{sym, ◌∙◌}
 use Prim.Native.Nat.{◌-◌}
-use lib.ListN.{length, drop}
-use lib.ListN.{length-drop}
+use lib.ListN.{length}
 use Rattle.leaves.specs.Octets.{Passed}
-use Rattle.leaves.proofs.SearchLaws.{has_near, has_far, pass_start, pass_more}
 use Rattle.lines.proofs.skip_64.Given as goal
 
 abbrev pub invariant-loop-i : goal.invariant-loop-i

@@ -1,7 +1,5 @@
 -- `lines::take_line` meets its contract. Assumes nothing.
-use borrow.Author.Rules.{rules}
 use native.Mathlib.Omega.{arith}
-use Prim.Native.Nat.{◌-◌}
 use Rattle.lines.proofs.LineLaws.{take_back}
 use Rattle.lines.proofs.take_line.Goals as goal
 

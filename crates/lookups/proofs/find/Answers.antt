@@ -1,8 +1,6 @@
 -- `lookups::find` meets its contract. Assumes nothing.
-use borrow.Author.Rules.{rules}
 use Rattle.lookups.proofs.FoundLaws.{sight_at, sight_missing, sight_blind}
 use mathlib.Core.Path.{sym, ◌∙◌}
-use Prim.Native.Nat.{◌-◌}
 use Rattle.lookups.proofs.find.Goals as goal
 
 pub returns-in-Sees : goal.returns-in-Sees

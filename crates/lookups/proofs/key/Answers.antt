@@ -1,10 +1,7 @@
 -- `lookups::key` meets its contract. Assumes nothing.
 use Rattle.lookups.specs.Lookups.{key_in}
-use Rattle.lookups.proofs.HandLaws.{hands_part, hands_nothing, slot_within}
-use borrow.Author.Rules.{rules}
-use native.Mathlib.Omega.{arith}
-use mathlib.Core.Path.{refl, sym, ap, ◌∙◌}
-use Prim.Native.Nat.{◌-◌}
+use Rattle.lookups.proofs.HandLaws.{hands_part, slot_within}
+use mathlib.Core.Path.{sym, ap, ◌∙◌}
 use Rattle.lookups.proofs.key.Goals as goal
 
 pub returns-in-Holds : goal.returns-in-Holds

@@ -1,13 +1,12 @@
 -- `lookups::seek` meets its contract. Assumes nothing.
 use mathlib.Core.List.{List}
 use Rattle.leaves.specs.Name.{same_name}
-use Rattle.lookups.specs.Lookups.{named, seeking, sighted_in}
+use Rattle.lookups.specs.Lookups.{named, sighted_in}
 use Rattle.lookups.proofs.SeekLaws.{seek_hit, seek_more, seek_end}
-use borrow.Author.Rules.{rules}
 use native.Mathlib.Omega.{arith}
-use mathlib.Core.Path.{◌≡◌, refl, sym, ap, ◌∙◌}
-use Prim.Native.Nat.{ℕ, ◌-◌, ◌≤◌, ◌<◌}
-use lib.ListN.{length, take, drop}
+use mathlib.Core.Path.{sym, ap, ◌∙◌}
+use Prim.Native.Nat.{ℕ, ◌≤◌, ◌<◌}
+use lib.ListN.{length}
 use Rattle.lookups.proofs.seek.Goals as goal
 
 pub returns-then-same_name : goal.returns-then-same_name

@@ -1,8 +1,6 @@
 -- `lookups::shown_status` meets its contract. Assumes nothing.
 use Rattle.lookups.proofs.HandLaws.{status_fine, status_refused}
-use borrow.Author.Rules.{rules}
 use mathlib.Core.Path.{sym, ◌∙◌}
-use Prim.Native.Nat.{◌-◌}
 use Rattle.lookups.proofs.shown_status.Goals as goal
 
 pub returns-in-Fine : goal.returns-in-Fine

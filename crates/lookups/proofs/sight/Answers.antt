@@ -1,9 +1,7 @@
 -- `lookups::sight` meets its contract. Assumes nothing.
-use borrow.Author.Rules.{rules}
 use Rattle.lookups.proofs.FoundLaws.{sight_fine, sight_refused}
 use Rattle.maps.proofs.GoodLaws.{ready_of}
 use mathlib.Core.Path.{sym, ◌∙◌}
-use Prim.Native.Nat.{◌-◌}
 use Rattle.lookups.proofs.sight.Goals as goal
 
 pub seek-requires : goal.seek-requires

@@ -1,10 +1,8 @@
 -- `lookups::slot_at` meets its contract. Assumes nothing.
 use Rattle.maps.proofs.GoodLaws.{ready_of}
 use Rattle.lookups.proofs.HandLaws.{slot_fine, slot_wrong, slot_refused}
-use borrow.Author.Rules.{rules}
 use native.Mathlib.Omega.{arith}
 use mathlib.Core.Path.{sym, ◌∙◌}
-use Prim.Native.Nat.{◌-◌}
 use Rattle.lookups.proofs.slot_at.Goals as goal
 
 pub offset_bounds-m-i : goal.offset_bounds-m-i

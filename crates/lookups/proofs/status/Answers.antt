@@ -1,10 +1,7 @@
 -- `lookups::status` meets its contract. Assumes nothing.
 use Rattle.lookups.specs.Lookups.{status_in}
-use Rattle.lookups.proofs.HandLaws.{hands_part, hands_nothing, status_within}
-use borrow.Author.Rules.{rules}
-use native.Mathlib.Omega.{arith}
-use mathlib.Core.Path.{refl, sym, ap, ◌∙◌}
-use Prim.Native.Nat.{◌-◌}
+use Rattle.lookups.proofs.HandLaws.{hands_part, status_within}
+use mathlib.Core.Path.{sym, ap, ◌∙◌}
 use Rattle.lookups.proofs.status.Goals as goal
 
 pub returns-in-At : goal.returns-in-At

@@ -1,10 +1,8 @@
 -- `maps::between` meets its contract. Assumes nothing.
 use Rattle.maps.specs.Places.{cut_from}
 use Rattle.maps.proofs.PartLaws.{none_between, none_past, none_reversed, all_past}
-use borrow.Author.Rules.{rules}
 use native.Mathlib.Omega.{arith}
 use mathlib.Core.Path.{refl, sym, ◌∙◌}
-use Prim.Native.Nat.{◌-◌}
 use lib.ListN.{length, drop}
 use Rattle.maps.proofs.between.Goals as goal
 

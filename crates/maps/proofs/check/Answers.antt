@@ -1,7 +1,5 @@
 -- `maps::check` meets its contract. Assumes nothing.
-use borrow.Author.Rules.{rules}
 use mathlib.Core.Path.{sym, ◌∙◌}
-use Prim.Native.Nat.{◌-◌}
 use borrow.Author.Tests.{le-leb, lt-leb}
 use Rattle.maps.proofs.GoodLaws.{and_go, and_stop, checked_bad, checked_short, checked_wrong, checked_fine}
 use Rattle.leaves.proofs.ChoiceLaws.{and_both}

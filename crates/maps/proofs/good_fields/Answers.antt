@@ -1,12 +1,9 @@
 -- `maps::good_fields` meets its contract. Assumes nothing.
-use borrow.Author.Rules.{rules}
 use native.Mathlib.Omega.{arith}
 use native.Mathlib.Numerals.{add-one}
-use mathlib.Core.Path.{◌≡◌, refl, sym, ◌∙◌}
-use Prim.Native.Nat.{◌-◌, ◌≤◌, ◌<◌}
-use lib.ListN.{length, take, drop}
+use mathlib.Core.Path.{sym, ◌∙◌}
+use Prim.Native.Nat.{◌<◌}
 use Rattle.maps.proofs.GoodLaws.{and_go, and_stop, fields_next, fields_end}
-use Rattle.maps.specs.Good.{good_fields}
 use Rattle.maps.proofs.good_fields.Goals as goal
 
 pub loop-i-preserved : goal.loop-i-preserved

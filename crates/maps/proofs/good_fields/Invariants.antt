@@ -1,11 +1,7 @@
 -- `maps::good_fields` meets its contract. Assumes nothing.
-use borrow.Author.Rules.{rules}
-use native.Mathlib.Omega.{arith}
-use native.Mathlib.Numerals.{add-one}
-use mathlib.Core.Path.{◌≡◌, refl, sym, ◌∙◌}
-use Prim.Native.Nat.{◌-◌, ◌≤◌, ◌<◌}
+use mathlib.Core.Path.{◌≡◌}
+use Prim.Native.Nat.{◌-◌, ◌≤◌}
 use lib.ListN.{length, take, drop}
-use Rattle.maps.proofs.GoodLaws.{and_go, and_stop, fields_next, fields_end}
 use Rattle.maps.specs.Good.{good_fields}
 use Rattle.maps.proofs.good_fields.Given as goal
 

@@ -1,10 +1,7 @@
 -- `maps::is_good` meets its contract. Assumes nothing.
-use borrow.Author.Rules.{rules}
 use Prim.Native.Nat.{ℕ}
 use lib.ListN.{take}
 use mathlib.Core.Path.{sym, ap, ◌∙◌}
-use Prim.Native.Nat.{◌-◌}
-use Rattle.maps.proofs.GoodBy.{counts_few}
 use Rattle.maps.proofs.GoodLaws.{no_fields, and_go, and_stop}
 use Rattle.maps.specs.Good.{good, good_fields}
 use Rattle.maps.proofs.is_good.Goals as goal

@@ -1,5 +1,4 @@
 -- `reader::begin` meets its contract. Assumes nothing.
-use borrow.Author.Rules.{rules}
 use Rattle.reader.proofs.CallLaws.{begun}
 use Rattle.reader.proofs.begin.Goals as goal
 

@@ -1,9 +1,7 @@
 -- `reader::check_rooms` meets its contract. Assumes nothing.
 use borrow.Author.Tests.{le-leb, lt-leb}
 use Rattle.reader.specs.Calls.{checked_rooms}
-use borrow.Author.Rules.{rules}
 use mathlib.Core.Path.{sym, ◌∙◌}
-use Prim.Native.Nat.{◌-◌}
 use Rattle.reader.proofs.check_rooms.Goals as goal
 
 pub returns-then-room-store : goal.returns-then-room-store

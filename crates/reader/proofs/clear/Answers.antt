@@ -1,5 +1,4 @@
 -- `reader::clear` meets its contract. Assumes nothing.
-use borrow.Author.Rules.{rules}
 use Rattle.reader.proofs.CallLaws.{cleared}
 use Rattle.reader.proofs.clear.Goals as goal
 

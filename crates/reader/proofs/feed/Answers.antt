@@ -1,7 +1,5 @@
 -- `reader::feed` meets its contract. Assumes nothing.
-use borrow.Author.Rules.{rules}
 use mathlib.Core.Path.{◌≡◌, refl, sym, ◌∙◌}
-use Prim.Native.Nat.{◌-◌}
 use Rattle.maps.proofs.GoodLaws.{ready_of}
 use Rattle.maps.specs.Good.{checked_reading}
 use Rattle.reader.proofs.CallLaws.{feeding_goes, feeding_stops}

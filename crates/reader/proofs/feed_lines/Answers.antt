@@ -1,13 +1,6 @@
 -- `reader::feed_lines` meets its contract. Assumes nothing.
-use borrow.Author.Rules.{rules}
 use native.Mathlib.Omega.{arith}
-use mathlib.Core.Path.{◌≡◌, refl, sym, ◌∙◌}
-use Prim.Native.Nat.{◌+◌, ◌-◌}
-use lib.ListN.{length, length-map}
-use Rattle.maps.specs.Heads.{under}
-use Rattle.line_reader.proofs.HeldLaws.{Feeding, feeding_start, one}
 use Rattle.line_reader.proofs.LineSteps.{seated, able}
-use Rattle.reader.specs.Heads.{head_after}
 use Rattle.reader.proofs.EndLaws.{handled_nears, handled_on, handled_puts, feed_end}
 use Rattle.reader.proofs.feed_lines.Goals as goal
 

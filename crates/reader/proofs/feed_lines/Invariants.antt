@@ -1,14 +1,10 @@
 -- `reader::feed_lines` meets its contract. Assumes nothing.
-use borrow.Author.Rules.{rules}
-use native.Mathlib.Omega.{arith}
-use mathlib.Core.Path.{◌≡◌, refl, sym, ◌∙◌}
+use mathlib.Core.Path.{◌≡◌}
 use Prim.Native.Nat.{◌+◌, ◌-◌}
-use lib.ListN.{length, length-map}
+use lib.ListN.{length}
 use Rattle.maps.specs.Heads.{under}
-use Rattle.line_reader.proofs.HeldLaws.{Feeding, feeding_start, one}
-use Rattle.line_reader.proofs.LineSteps.{seated, able}
+use Rattle.line_reader.proofs.HeldLaws.{Feeding, one}
 use Rattle.reader.specs.Heads.{head_after}
-use Rattle.reader.proofs.EndLaws.{handled_nears, handled_on, handled_puts, feed_end}
 use Rattle.reader.proofs.feed_lines.Given as goal
 
 abbrev pub invariant-loop-going : goal.invariant-loop-going

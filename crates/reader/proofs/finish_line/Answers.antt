@@ -1,8 +1,5 @@
 -- `reader::finish_line` meets its contract. Assumes nothing.
-use borrow.Author.Rules.{rules}
 use native.Mathlib.Omega.{arith}
-use mathlib.Core.Path.{sym, ◌∙◌}
-use lib.ListN.{length-map}
 use Rattle.line_reader.proofs.LineSteps.{able, end_is}
 use Rattle.reader.proofs.EndLaws.{spot_in, spot_put, finish_seated, finish_end}
 use Rattle.reader.proofs.finish_line.Goals as goal

@@ -1,10 +1,8 @@
 -- `singles::only_value` meets its contract. Assumes nothing.
-use borrow.Author.Rules.{rules}
 use Rattle.singles.proofs.FieldLaws.{found_small, none_missing, one_found, none_again, none_refused}
 use Rattle.lookups.proofs.FoundLaws.{sight_at, sight_value, sight_missing, sight_blind}
 use native.Mathlib.Omega.{arith}
 use mathlib.Core.Path.{sym, ◌∙◌}
-use Prim.Native.Nat.{◌-◌}
 use Rattle.singles.proofs.only_value.Goals as goal
 
 pub overflow_add-i : goal.overflow_add-i

@@ -1,13 +1,10 @@
 -- `tidy::are_clean` meets its contract. Assumes nothing.
 use Rattle.tidy.proofs.CleanLaws.{pair_test, clean_more, clean_stop, clean_end}
-use mathlib.Core.List.{map}
-use Rattle.maps.specs.Said.{pair_at}
-use Rattle.rebuilds.specs.Clean.{clean_pairs}
 use borrow.Author.Rules.{rules}
 use native.Mathlib.Omega.{arith}
-use mathlib.Core.Path.{◌≡◌, refl, sym, ◌∙◌}
-use Prim.Native.Nat.{◌-◌, ◌≤◌, ◌<◌}
-use lib.ListN.{length, take, drop}
+use mathlib.Core.Path.{sym, ◌∙◌}
+use Prim.Native.Nat.{◌≤◌, ◌<◌}
+use lib.ListN.{length}
 use Rattle.tidy.proofs.are_clean.Goals as goal
 
 pub loop-i-preserved : goal.loop-i-preserved

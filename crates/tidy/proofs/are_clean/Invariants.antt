@@ -1,13 +1,10 @@
 -- `tidy::are_clean` meets its contract. Assumes nothing.
-use Rattle.tidy.proofs.CleanLaws.{pair_test, clean_more, clean_stop, clean_end}
 use mathlib.Core.List.{map}
 use Rattle.maps.specs.Said.{pair_at}
 use Rattle.rebuilds.specs.Clean.{clean_pairs}
-use borrow.Author.Rules.{rules}
-use native.Mathlib.Omega.{arith}
-use mathlib.Core.Path.{◌≡◌, refl, sym, ◌∙◌}
-use Prim.Native.Nat.{◌-◌, ◌≤◌, ◌<◌}
-use lib.ListN.{length, take, drop}
+use mathlib.Core.Path.{◌≡◌}
+use Prim.Native.Nat.{◌-◌, ◌≤◌}
+use lib.ListN.{take, drop}
 use Rattle.tidy.proofs.are_clean.Given as goal
 
 abbrev pub invariant-loop-i : goal.invariant-loop-i

@@ -1,9 +1,7 @@
 -- `tidy::clean` meets its contract. Assumes nothing.
 use Rattle.tidy.proofs.CleanLaws.{clean_refused, clean_yes, fields_not, status_not}
 use Rattle.maps.proofs.GoodLaws.{ready_of}
-use borrow.Author.Rules.{rules}
 use mathlib.Core.Path.{sym, ◌∙◌}
-use Prim.Native.Nat.{◌-◌}
 use Rattle.tidy.proofs.clean.Goals as goal
 
 pub are_clean-requires : goal.are_clean-requires

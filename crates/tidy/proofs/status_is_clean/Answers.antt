@@ -1,7 +1,5 @@
 -- `tidy::status_is_clean` meets its contract. Assumes nothing.
-use Rattle.tidy.proofs.CleanLaws.{status_none, status_some}
-use borrow.Author.Rules.{rules}
-use Prim.Native.Nat.{◌-◌}
+use Rattle.tidy.proofs.CleanLaws.{status_none}
 use Rattle.tidy.proofs.status_is_clean.Goals as goal
 
 pub returns-in-Absent : goal.returns-in-Absent

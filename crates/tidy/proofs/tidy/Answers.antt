@@ -1,9 +1,7 @@
 -- `tidy::tidy` meets its contract. Assumes nothing.
 use Rattle.tidy.proofs.ScanLaws.{tidy_refused, tidy_long, tidy_by}
-use borrow.Author.Rules.{rules}
 use mathlib.Core.Path.{sym, ◌∙◌}
 use mathlib.Core.Bool.{true, false}
-use Prim.Native.Nat.{◌-◌}
 use Rattle.tidy.proofs.tidy.Goals as goal
 
 pub returns-then-limit-gt-LARGEST : goal.returns-then-limit-gt-LARGEST

@@ -1,15 +1,11 @@
 -- `writes::fields_length` meets its contract. Assumes nothing.
 use Rattle.lookups.proofs.SeekLaws.{live_cons, live_end}
-use mathlib.Core.List.{map}
-use native.Mathlib.Nat.{zero-add}
-use Rattle.maps.specs.Said.{pair_at}
-use Rattle.writes.specs.Written.{pair_lines}
 use Rattle.writes.proofs.FormLaws.{lines_length, lines_none}
 use borrow.Author.Rules.{rules}
 use native.Mathlib.Omega.{arith}
-use mathlib.Core.Path.{◌≡◌, ap}
-use Prim.Native.Nat.{◌+◌, ◌-◌, ◌*◌, ◌≤◌, ◌<◌}
-use lib.ListN.{length, take, drop}
+use mathlib.Core.Path.{ap}
+use Prim.Native.Nat.{◌≤◌, ◌<◌}
+use lib.ListN.{length}
 use Rattle.writes.proofs.fields_length.Goals as goal
 
 pub loop-i-preserved : goal.loop-i-preserved

@@ -1,7 +1,5 @@
 -- `writes::give` meets its contract. Assumes nothing.
 use Rattle.writes.proofs.WriteLaws.{give_short, give_all}
-use borrow.Author.Rules.{rules}
-use Prim.Native.Nat.{◌-◌}
 use Rattle.writes.proofs.give.Goals as goal
 
 pub returns-then-out-text : goal.returns-then-out-text

@@ -1,9 +1,7 @@
 -- `writes::pair_length` meets its contract. Assumes nothing.
 use Rattle.writes.proofs.FormLaws.{bare_length, full_length}
-use borrow.Author.Rules.{rules}
 use native.Mathlib.Omega.{arith}
 use mathlib.Core.Path.{sym}
-use Prim.Native.Nat.{◌-◌}
 use Rattle.writes.proofs.pair_length.Goals as goal
 
 pub returns-then-key-eq0 : goal.returns-then-key-eq0

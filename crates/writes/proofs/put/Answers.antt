@@ -1,9 +1,8 @@
 -- `writes::put` meets its contract. Assumes nothing.
 use Rattle.leaves.proofs.PasteLaws.{part_back}
-use borrow.Author.Rules.{rules}
 use native.Mathlib.Omega.{arith}
 use mathlib.Core.Path.{refl}
-use Prim.Native.Nat.{◌+◌, ◌-◌}
+use Prim.Native.Nat.{◌+◌}
 use lib.ListN.{length}
 use Rattle.writes.proofs.put.Goals as goal
 

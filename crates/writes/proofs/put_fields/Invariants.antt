@@ -1,14 +1,10 @@
 -- `writes::put_fields` meets its contract. Assumes nothing.
-use Rattle.writes.proofs.FormLaws.{fields_room, fields_step, fields_end}
-use Rattle.lookups.proofs.SeekLaws.{live_cons, live_end}
 use mathlib.Core.List.{map}
 use Rattle.writes.specs.Written.{pair_lines}
 use Rattle.maps.specs.Said.{pair_at}
-use Rattle.writes.proofs.PutLaws.{Writing, write_start}
-use borrow.Author.Rules.{rules}
-use native.Mathlib.Omega.{arith}
-use Prim.Native.Nat.{◌-◌, ◌≤◌, ◌<◌}
-use lib.ListN.{length, take, drop}
+use Rattle.writes.proofs.PutLaws.{Writing}
+use Prim.Native.Nat.{◌-◌, ◌≤◌}
+use lib.ListN.{take, drop}
 use Rattle.writes.proofs.put_fields.Given as goal
 
 abbrev pub invariant-loop-i : goal.invariant-loop-i

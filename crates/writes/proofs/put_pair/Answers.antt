@@ -1,9 +1,8 @@
 -- `writes::put_pair` meets its contract. Assumes nothing.
 use Rattle.writes.proofs.FormLaws.{bare_length, full_length, pair_bare, pair_full}
 use Rattle.writes.proofs.PutLaws.{put_more, put_four}
-use borrow.Author.Rules.{rules}
 use native.Mathlib.Omega.{arith}
-use Prim.Native.Nat.{◌+◌, ◌-◌, ◌≤◌}
+use Prim.Native.Nat.{◌+◌, ◌≤◌}
 use lib.ListN.{length}
 use Rattle.writes.proofs.put_pair.Goals as goal
 

@@ -1,9 +1,8 @@
 -- `writes::put_status` meets its contract. Assumes nothing.
 use Rattle.writes.proofs.FormLaws.{line_none, line_bare, line_full, line_length}
 use Rattle.writes.proofs.PutLaws.{put_none, put_more}
-use borrow.Author.Rules.{rules}
 use native.Mathlib.Omega.{arith}
-use Prim.Native.Nat.{◌+◌, ◌-◌, ◌≤◌}
+use Prim.Native.Nat.{◌+◌, ◌≤◌}
 use lib.ListN.{length}
 use Rattle.writes.proofs.put_status.Goals as goal
 

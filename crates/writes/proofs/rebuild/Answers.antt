@@ -1,10 +1,8 @@
 -- `writes::rebuild` meets its contract. Assumes nothing.
 use Rattle.maps.proofs.GoodLaws.{ready_of}
 use Rattle.writes.proofs.WriteLaws.{rebuild_refused, rebuild_fine, form_short, form_done}
-use borrow.Author.Rules.{rules}
 use native.Mathlib.Omega.{arith}
 use mathlib.Core.Path.{refl, sym, ◌∙◌}
-use Prim.Native.Nat.{◌-◌}
 use Rattle.writes.proofs.rebuild.Goals as goal
 
 pub fields_length-b-requires : goal.fields_length-b-requires

@@ -1,9 +1,7 @@
 -- `writes::status_length` meets its contract. Assumes nothing.
 use Rattle.writes.proofs.FormLaws.{line_none, line_bare, line_length}
-use borrow.Author.Rules.{rules}
 use native.Mathlib.Omega.{arith}
 use mathlib.Core.Path.{sym, ap}
-use Prim.Native.Nat.{◌-◌}
 use lib.ListN.{length}
 use Rattle.writes.proofs.status_length.Goals as goal
 

@@ -1,7 +1,6 @@
 -- `writes::write` meets its contract. Assumes nothing.
 use Rattle.maps.proofs.GoodLaws.{ready_of}
 use Rattle.writes.proofs.WriteLaws.{write_refused, write_rebuilt, write_plain}
-use borrow.Author.Rules.{rules}
 use native.Mathlib.Omega.{arith}
 use mathlib.Core.Path.{◌≡◌, sym, ◌∙◌}
 use Prim.Native.Nat.{◌-◌}

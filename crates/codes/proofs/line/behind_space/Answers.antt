@@ -1,9 +1,7 @@
 -- `codes::line::behind_space` meets its contract. Assumes nothing.
 use Rattle.codes.proofs.LineLaws.{behind_hit, behind_none}
 use Rattle.codes.specs.Told.{start_told}
-use borrow.Author.Rules.{rules}
 use mathlib.Core.Path.{sym, ap}
-use Prim.Native.Nat.{◌-◌}
 use Rattle.codes.proofs.line.behind_space.Goals as goal
 
 pub returns-then-i-text : goal.returns-then-i-text

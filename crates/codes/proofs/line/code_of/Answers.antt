@@ -2,10 +2,8 @@
 use Rattle.codes.proofs.LineLaws.{told_at, told_none, behind_within, until_space_lem, code_at, code_none, code_other}
 use Rattle.codes.specs.Line.{without_plus}
 use Rattle.leaves.proofs.SearchLaws.{before_within}
-use borrow.Author.Rules.{rules}
 use native.Mathlib.Omega.{arith}
 use mathlib.Core.Path.{sym, ap, ◌∙◌}
-use Prim.Native.Nat.{◌-◌}
 use lib.ListN.{drop, length-drop}
 use Rattle.codes.proofs.line.code_of.Goals as goal
 

@@ -1,8 +1,6 @@
 -- `codes::line::is_http` meets its contract. Assumes nothing.
 use Rattle.codes.proofs.LineLaws.{http_short, http_is}
-use borrow.Author.Rules.{rules}
 use mathlib.Core.Path.{sym}
-use Prim.Native.Nat.{◌-◌}
 use Rattle.codes.proofs.line.is_http.Goals as goal
 
 pub returns-then-text-lt5 : goal.returns-then-text-lt5

@@ -1,9 +1,7 @@
 -- `codes::line::reason_start` meets its contract. Assumes nothing.
 use Rattle.codes.proofs.LineLaws.{told_at, told_none, behind_within, start_at, start_none, start_other}
 use Rattle.codes.specs.Told.{start_told}
-use borrow.Author.Rules.{rules}
 use mathlib.Core.Path.{sym, ap, ◌∙◌}
-use Prim.Native.Nat.{◌-◌}
 use Rattle.codes.proofs.line.reason_start.Goals as goal
 
 pub behind_space-requires : goal.behind_space-requires

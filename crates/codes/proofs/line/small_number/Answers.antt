@@ -1,9 +1,7 @@
 -- `codes::line::small_number` meets its contract. Assumes nothing.
 use Rattle.codes.proofs.LineLaws.{number_small, number_large, number_none}
 use Rattle.codes.specs.Told.{code_told}
-use borrow.Author.Rules.{rules}
 use mathlib.Core.Path.{sym, ap, ◌∙◌}
-use Prim.Native.Nat.{◌-◌}
 use Rattle.codes.proofs.line.small_number.Goals as goal
 
 pub returns-then-n-le65535 : goal.returns-then-n-le65535

@@ -1,9 +1,7 @@
 -- `codes::line::without_plus` meets its contract. Assumes nothing.
 use Rattle.codes.proofs.LineLaws.{plus_empty, plus_gone, plus_kept}
 use Rattle.leaves.proofs.PasteLaws.{tail_all}
-use borrow.Author.Rules.{rules}
 use mathlib.Core.Path.{◌∙◌}
-use Prim.Native.Nat.{◌-◌}
 use Rattle.codes.proofs.line.without_plus.Goals as goal
 
 pub returns-then-text-eq0 : goal.returns-then-text-eq0

@@ -3,12 +3,11 @@ use mathlib.Core.List.{List}
 use Rattle.leaves.specs.Name.{same_name}
 use Rattle.leaves.specs.Sanitise.{sanitised}
 use Rattle.lookups.specs.Lookups.{named}
-use Rattle.edits.proofs.KeepLaws.{Keeping, keep_start, keep_drop, keep_move, keep_end}
-use borrow.Author.Rules.{rules}
+use Rattle.edits.proofs.KeepLaws.{keep_drop, keep_move, keep_end}
 use native.Mathlib.Omega.{arith}
 use mathlib.Core.Path.{sym, ap, ◌∙◌}
 use mathlib.Core.Bool.{true}
-use Prim.Native.Nat.{ℕ, ◌-◌, ◌≤◌, ◌<◌}
+use Prim.Native.Nat.{ℕ, ◌≤◌, ◌<◌}
 use lib.ListN.{length}
 use Rattle.edits.proofs.tables.compact.Goals as goal
 

@@ -1,15 +1,9 @@
 -- `edits::tables::compact` meets its contract. Assumes nothing.
-use mathlib.Core.List.{List}
-use Rattle.leaves.specs.Name.{same_name}
 use Rattle.leaves.specs.Sanitise.{sanitised}
 use Rattle.lookups.specs.Lookups.{named}
-use Rattle.edits.proofs.KeepLaws.{Keeping, keep_start, keep_drop, keep_move, keep_end}
-use borrow.Author.Rules.{rules}
-use native.Mathlib.Omega.{arith}
-use mathlib.Core.Path.{sym, ap, ◌∙◌}
+use Rattle.edits.proofs.KeepLaws.{Keeping}
 use mathlib.Core.Bool.{true}
-use Prim.Native.Nat.{ℕ, ◌-◌, ◌≤◌, ◌<◌}
-use lib.ListN.{length}
+use Prim.Native.Nat.{◌-◌}
 use Rattle.edits.proofs.tables.compact.Given as goal
 
 abbrev pub invariant-loop-i : goal.invariant-loop-i

@@ -4,14 +4,12 @@ use Rattle.leaves.specs.Name.{same_name}
 use Rattle.leaves.specs.Sanitise.{sanitised}
 use Rattle.lookups.specs.Lookups.{named}
 use Rattle.edits.proofs.KeepLaws.{first_more, first_hit, first_end}
-use native.Mathlib.Nat.{zero-add}
-use Rattle.edits.specs.Fields.{first_at}
 use borrow.Author.Rules.{rules}
 use native.Mathlib.Omega.{arith}
-use mathlib.Core.Path.{◌≡◌, sym, ap, ◌∙◌}
+use mathlib.Core.Path.{sym, ap, ◌∙◌}
 use mathlib.Core.Bool.{true}
-use Prim.Native.Nat.{ℕ, ◌+◌, ◌-◌, ◌≤◌, ◌<◌}
-use lib.ListN.{length, take, drop}
+use Prim.Native.Nat.{ℕ, ◌≤◌, ◌<◌}
+use lib.ListN.{length}
 use Rattle.edits.proofs.tables.first_at.Goals as goal
 
 pub returns-then-matches_sanitised : goal.returns-then-matches_sanitised

@@ -1,17 +1,11 @@
 -- `edits::tables::first_at` meets its contract. Assumes nothing.
-use mathlib.Core.List.{List}
-use Rattle.leaves.specs.Name.{same_name}
 use Rattle.leaves.specs.Sanitise.{sanitised}
 use Rattle.lookups.specs.Lookups.{named}
-use Rattle.edits.proofs.KeepLaws.{first_more, first_hit, first_end}
-use native.Mathlib.Nat.{zero-add}
 use Rattle.edits.specs.Fields.{first_at}
-use borrow.Author.Rules.{rules}
-use native.Mathlib.Omega.{arith}
-use mathlib.Core.Path.{◌≡◌, sym, ap, ◌∙◌}
+use mathlib.Core.Path.{◌≡◌}
 use mathlib.Core.Bool.{true}
-use Prim.Native.Nat.{ℕ, ◌+◌, ◌-◌, ◌≤◌, ◌<◌}
-use lib.ListN.{length, take, drop}
+use Prim.Native.Nat.{◌+◌, ◌-◌, ◌≤◌}
+use lib.ListN.{take, drop}
 use Rattle.edits.proofs.tables.first_at.Given as goal
 
 abbrev pub invariant-loop-i : goal.invariant-loop-i

@@ -2,10 +2,9 @@
 use Rattle.leaves.specs.Sanitise.{sanitised}
 use Rattle.lookups.specs.Lookups.{named}
 use Rattle.edits.proofs.PutLaws.{put_last, put_inner}
-use borrow.Author.Rules.{rules}
 use native.Mathlib.Omega.{arith}
 use mathlib.Core.Bool.{true}
-use Prim.Native.Nat.{◌-◌, ◌≤◌, ◌<◌}
+use Prim.Native.Nat.{◌≤◌, ◌<◌}
 use lib.ListN.{length}
 use Rattle.edits.proofs.tables.put.Goals as goal
 

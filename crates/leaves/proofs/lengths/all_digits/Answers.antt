@@ -1,12 +1,9 @@
 -- `leaves::lengths::all_digits` meets its contract. Assumes nothing.
 use Rattle.leaves.specs.Class.{digit}
-use Rattle.leaves.specs.Octets.{all}
 use Rattle.leaves.proofs.SearchLaws.{all_more, all_stop, all_end}
 use borrow.Author.Rules.{rules}
 use native.Mathlib.Omega.{arith}
-use mathlib.Core.Path.{◌≡◌, refl, sym, ◌∙◌}
-use Prim.Native.Nat.{◌-◌, ◌≤◌}
-use lib.ListN.{length, drop}
+use mathlib.Core.Path.{sym, ◌∙◌}
 use Rattle.leaves.proofs.lengths.all_digits.Goals as goal
 
 pub loop-i-preserved : goal.loop-i-preserved

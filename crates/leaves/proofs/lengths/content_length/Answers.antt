@@ -2,9 +2,8 @@ use borrow.Author.Rules.{rules}
 use native.Mathlib.Omega.{arith}
 use mathlib.Core.Path.{◌≡◌, sym, ap, ◌∙◌}
 use mathlib.Core.Bool.{true}
-use Prim.Native.Nat.{ℕ, ◌+◌, ◌-◌, ◌≤◌}
-use lib.ListN.{length, get_or, drop}
-use Rattle.leaves.specs.Number.{content_length}
+use Prim.Native.Nat.{ℕ, ◌+◌}
+use lib.ListN.{get_or, drop}
 use Rattle.leaves.proofs.NumberLaws.{digit_range, length_from, length_start, length_more, length_stop, length_end}
 use Rattle.leaves.specs.Class.{digit}
 use Rattle.leaves.proofs.lengths.content_length.Goals as goal

@@ -1,12 +1,8 @@
-use borrow.Author.Rules.{rules}
-use native.Mathlib.Omega.{arith}
-use mathlib.Core.Path.{◌≡◌, sym, ap, ◌∙◌}
-use mathlib.Core.Bool.{true}
-use Prim.Native.Nat.{ℕ, ◌+◌, ◌-◌, ◌≤◌}
-use lib.ListN.{length, get_or, drop}
+use mathlib.Core.Path.{◌≡◌}
+use Prim.Native.Nat.{◌-◌, ◌≤◌}
+use lib.ListN.{length, drop}
 use Rattle.leaves.specs.Number.{content_length}
-use Rattle.leaves.proofs.NumberLaws.{digit_range, length_from, length_start, length_more, length_stop, length_end}
-use Rattle.leaves.specs.Class.{digit}
+use Rattle.leaves.proofs.NumberLaws.{length_from}
 use Rattle.leaves.proofs.lengths.content_length.Given as goal
 
 abbrev pub invariant-loop-i : goal.invariant-loop-i

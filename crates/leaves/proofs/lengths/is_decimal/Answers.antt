@@ -1,8 +1,6 @@
 -- `leaves::lengths::is_decimal` meets its contract. Assumes nothing.
 use Rattle.leaves.proofs.NumberLaws.{decimal_none, decimal_some}
-use borrow.Author.Rules.{rules}
 use mathlib.Core.Path.{sym, ◌∙◌}
-use Prim.Native.Nat.{◌-◌}
 use Rattle.leaves.proofs.lengths.is_decimal.Goals as goal
 
 pub returns-then-value-eq0 : goal.returns-then-value-eq0

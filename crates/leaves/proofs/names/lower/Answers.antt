@@ -1,5 +1,3 @@
-use borrow.Author.Rules.{rules}
-use Prim.Native.Nat.{◌-◌}
 use borrow.Author.Tests.{le-leb, lt-leb}
 use Rattle.leaves.specs.Name.{lowered}
 use Rattle.leaves.proofs.names.lower.Goals as goal

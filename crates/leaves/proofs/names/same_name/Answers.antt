@@ -1,9 +1,5 @@
-use borrow.Author.Rules.{rules}
 use native.Mathlib.Omega.{arith}
-use mathlib.Core.Path.{◌≡◌, refl, sym, ◌∙◌}
-use Prim.Native.Nat.{◌-◌, ◌≤◌}
-use lib.ListN.{length, drop}
-use Rattle.leaves.specs.Name.{same_name}
+use mathlib.Core.Path.{sym, ◌∙◌}
 use Rattle.leaves.proofs.NameLaws.{same_apart, same_more, same_stop, same_end}
 use Rattle.leaves.proofs.names.same_name.Goals as goal
 

@@ -1,10 +1,7 @@
-use borrow.Author.Rules.{rules}
-use native.Mathlib.Omega.{arith}
-use mathlib.Core.Path.{◌≡◌, refl, sym, ◌∙◌}
+use mathlib.Core.Path.{◌≡◌}
 use Prim.Native.Nat.{◌-◌, ◌≤◌}
 use lib.ListN.{length, drop}
 use Rattle.leaves.specs.Name.{same_name}
-use Rattle.leaves.proofs.NameLaws.{same_apart, same_more, same_stop, same_end}
 use Rattle.leaves.proofs.names.same_name.Given as goal
 
 abbrev pub invariant-loop-i : goal.invariant-loop-i

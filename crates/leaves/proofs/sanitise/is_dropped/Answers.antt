@@ -1,6 +1,5 @@
 -- `leaves::sanitise::is_dropped` meets its contract. Assumes nothing.
 use Rattle.leaves.specs.Sanitise.{dropped}
-use Prim.Native.Nat.{◌-◌}
 use borrow.Author.Tests.{eq-eqb, ne_eqb}
 use Rattle.leaves.proofs.sanitise.is_dropped.Goals as goal
 

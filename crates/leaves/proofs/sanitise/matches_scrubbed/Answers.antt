@@ -4,9 +4,9 @@ use Rattle.leaves.proofs.ScrubLaws.{skipped, kept, ended}
 use Rattle.leaves.proofs.NameLaws.{name_short, name_more, name_stop, name_left, name_end}
 use borrow.Author.Rules.{rules}
 use native.Mathlib.Omega.{arith}
-use mathlib.Core.Path.{◌≡◌, refl, sym, ap, ◌∙◌}
+use mathlib.Core.Path.{sym, ap, ◌∙◌}
 use mathlib.Core.Bool.{true}
-use Prim.Native.Nat.{◌+◌, ◌-◌, ◌≤◌, ◌<◌}
+use Prim.Native.Nat.{◌+◌, ◌≤◌, ◌<◌}
 use lib.ListN.{length, get_or, drop}
 use Rattle.leaves.proofs.sanitise.matches_scrubbed.Goals as goal
 

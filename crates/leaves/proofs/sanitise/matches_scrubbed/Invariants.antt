@@ -1,13 +1,9 @@
-use Rattle.leaves.specs.Name.{lowered, same_name}
-use Rattle.leaves.specs.Sanitise.{spaced, scrubbed}
-use Rattle.leaves.proofs.ScrubLaws.{skipped, kept, ended}
-use Rattle.leaves.proofs.NameLaws.{name_short, name_more, name_stop, name_left, name_end}
-use borrow.Author.Rules.{rules}
-use native.Mathlib.Omega.{arith}
-use mathlib.Core.Path.{◌≡◌, refl, sym, ap, ◌∙◌}
+use Rattle.leaves.specs.Name.{same_name}
+use Rattle.leaves.specs.Sanitise.{scrubbed}
+use mathlib.Core.Path.{◌≡◌}
 use mathlib.Core.Bool.{true}
-use Prim.Native.Nat.{◌+◌, ◌-◌, ◌≤◌, ◌<◌}
-use lib.ListN.{length, get_or, drop}
+use Prim.Native.Nat.{◌-◌, ◌≤◌}
+use lib.ListN.{length, drop}
 use Rattle.leaves.proofs.sanitise.matches_scrubbed.Given as goal
 
 abbrev pub invariant-loop-i : goal.invariant-loop-i

@@ -1,4 +1,3 @@
-use Prim.Native.Nat.{◌-◌}
 use borrow.Author.Tests.{eq-eqb, ne_eqb}
 use Rattle.leaves.specs.Sanitise.{spaced}
 use Rattle.leaves.proofs.sanitise.no_break.Goals as goal

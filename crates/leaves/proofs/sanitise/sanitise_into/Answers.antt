@@ -1,9 +1,7 @@
-use borrow.Author.Rules.{rules}
 use native.Mathlib.Omega.{arith}
-use Prim.Native.Nat.{◌-◌}
 use lib.ListN.{length}
 use Rattle.leaves.specs.Sanitise.{sanitised}
-use Rattle.leaves.proofs.PasteLaws.{part_length, part_back}
+use Rattle.leaves.proofs.PasteLaws.{part_back}
 use Rattle.leaves.proofs.sanitise.sanitise_into.Goals as goal
 
 pub returns : goal.returns

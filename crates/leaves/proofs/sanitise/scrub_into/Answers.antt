@@ -1,9 +1,6 @@
-use borrow.Author.Rules.{rules}
 use native.Mathlib.Omega.{arith}
 use mathlib.Core.Path.{sym, ◌∙◌}
-use Prim.Native.Nat.{◌-◌}
-use lib.ListN.{length}
-use Rattle.leaves.proofs.ScrubLaws.{Scrubbing, scrub_start, scrub_skip, scrub_keep, scrub_room}
+use Rattle.leaves.proofs.ScrubLaws.{scrub_skip, scrub_keep, scrub_room}
 use Rattle.leaves.proofs.ScrubLaws.{scrub_length, scrub_end}
 use Rattle.leaves.proofs.sanitise.scrub_into.Goals as goal
 

@@ -1,11 +1,9 @@
-use native.Mathlib.Nat.{zero-add}
-use Rattle.leaves.specs.Sanitise.{scrubbed}
 use Rattle.leaves.proofs.ScrubLaws.{skipped, kept, ended}
 use borrow.Author.Rules.{rules}
 use native.Mathlib.Omega.{arith}
-use mathlib.Core.Path.{◌≡◌, sym, ap, ◌∙◌}
-use Prim.Native.Nat.{◌+◌, ◌-◌, ◌≤◌, ◌<◌}
-use lib.ListN.{length, drop}
+use mathlib.Core.Path.{sym, ap, ◌∙◌}
+use Prim.Native.Nat.{◌≤◌, ◌<◌}
+use lib.ListN.{length}
 use Rattle.leaves.proofs.sanitise.scrubbed_length.Goals as goal
 
 pub loop-i-preserved-then-is_dropped : goal.loop-i-preserved-then-is_dropped

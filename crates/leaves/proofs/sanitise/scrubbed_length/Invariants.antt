@@ -1,10 +1,6 @@
-use native.Mathlib.Nat.{zero-add}
 use Rattle.leaves.specs.Sanitise.{scrubbed}
-use Rattle.leaves.proofs.ScrubLaws.{skipped, kept, ended}
-use borrow.Author.Rules.{rules}
-use native.Mathlib.Omega.{arith}
-use mathlib.Core.Path.{◌≡◌, sym, ap, ◌∙◌}
-use Prim.Native.Nat.{◌+◌, ◌-◌, ◌≤◌, ◌<◌}
+use mathlib.Core.Path.{◌≡◌}
+use Prim.Native.Nat.{◌+◌, ◌-◌, ◌≤◌}
 use lib.ListN.{length, drop}
 use Rattle.leaves.proofs.sanitise.scrubbed_length.Given as goal
 

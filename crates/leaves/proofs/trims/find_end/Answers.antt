@@ -1,13 +1,8 @@
 -- `leaves::find_end` meets its contract. The invariant: the octets from e on are blanks, so the end is that of the first e.
 -- Assumes nothing.
-use mathlib.Core.Path.{◌≡◌, sym, ◌∙◌}
-use Prim.Native.Nat.{◌-◌, ◌≤◌}
+use mathlib.Core.Path.{sym, ◌∙◌}
 use native.Mathlib.Omega.{arith}
-use lib.ListN.{length, take}
-use lib.Seq.{take-length}
-use borrow.Author.Rules.{rules}
 use borrow.Author.Tests.{not-true, not-false}
-use Rattle.leaves.specs.Trim.{trim_end}
 use Rattle.leaves.proofs.TrimLaws.{end_less, end_stop, end_none}
 use Rattle.leaves.proofs.trims.find_end.Goals as goal
 

@@ -1,5 +1,4 @@
 -- `leaves::trim_bounds` meets its contract. Assumes nothing.
-use borrow.Author.Rules.{rules}
 use Rattle.leaves.proofs.TrimLaws.{bounds_lt, bounds_ge}
 use Rattle.leaves.proofs.trims.trim_bounds.Goals as goal
 

@@ -1,9 +1,8 @@
 -- `standard::names::frame` meets its contract. Assumes nothing.
 use mathlib.Core.List.{List}
 use Rattle.leaves.proofs.PasteLaws.{pasted_front}
-use borrow.Author.Rules.{rules}
 use mathlib.Core.Path.{ap}
-use Prim.Native.Nat.{ℕ, ◌-◌}
+use Prim.Native.Nat.{ℕ}
 use lib.ListN.{length}
 use Rattle.standard.proofs.names.frame.Goals as goal
 

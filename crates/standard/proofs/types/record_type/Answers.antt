@@ -1,11 +1,10 @@
 -- `standard::types::record_type` meets its contract: each test passes over one row of the table or answers its code. Assumes nothing.
-use borrow.Author.Rules.{rules}
 use Rattle.standard.specs.Types.{TypeName, kinds, code_among}
 use Rattle.leaves.specs.Name.{same_name}
 use mathlib.Core.List.{List, [], ◌∷◌}
 use mathlib.Core.Path.{◌≡◌, refl, sym, ◌∙◌}
 use mathlib.Core.Bool.{true, false}
-use Prim.Native.Nat.{ℕ, ◌-◌}
+use Prim.Native.Nat.{ℕ}
 use Rattle.standard.proofs.types.record_type.Goals as goal
 
 miss : (k : TypeName) (ks : List TypeName) (s : List ℕ) → same_name s k.name ≡ false → code_among (k ∷ ks) s ≡ code_among ks s

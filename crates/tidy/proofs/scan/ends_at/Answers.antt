@@ -1,7 +1,5 @@
 -- `tidy::scan::ends_at` meets its contract. Assumes nothing.
-use Rattle.tidy.proofs.TwoLaws.{end_two, end_not}
-use borrow.Author.Rules.{rules}
-use Prim.Native.Nat.{◌-◌}
+use Rattle.tidy.proofs.TwoLaws.{end_not}
 use Rattle.tidy.proofs.scan.ends_at.Goals as goal
 
 pub returns : goal.returns

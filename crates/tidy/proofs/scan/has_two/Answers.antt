@@ -1,7 +1,5 @@
 -- `tidy::scan::has_two` meets its contract. Assumes nothing.
 use Rattle.tidy.proofs.TwoLaws.{two_short, two_first, two_not}
-use borrow.Author.Rules.{rules}
-use Prim.Native.Nat.{◌-◌}
 use Rattle.tidy.proofs.scan.has_two.Goals as goal
 
 pub returns-then-octets-at-lt2 : goal.returns-then-octets-at-lt2

@@ -1,10 +1,8 @@
 -- `tidy::scan::is_scanned` meets its contract. Assumes nothing.
 use Rattle.tidy.proofs.PassLaws.{filled_within}
 use Rattle.tidy.proofs.ScanLaws.{status_past, status_not_past, no_status}
-use borrow.Author.Rules.{rules}
 use native.Mathlib.Omega.{arith}
 use mathlib.Core.Path.{sym, ◌∙◌}
-use Prim.Native.Nat.{◌-◌}
 use Rattle.tidy.proofs.scan.is_scanned.Goals as goal
 
 pub scan_pairs-requires : goal.scan_pairs-requires

@@ -1,7 +1,5 @@
 -- `tidy::scan::past_filled` meets its contract. Assumes nothing.
 use Rattle.tidy.proofs.PassLaws.{filled_past, filled_here, filled_end}
-use borrow.Author.Rules.{rules}
-use Prim.Native.Nat.{◌-◌}
 use Rattle.tidy.proofs.scan.past_filled.Goals as goal
 
 pub returns-then-octets-at : goal.returns-then-octets-at

@@ -1,9 +1,7 @@
 -- `tidy::scan::past_pair` meets its contract. Assumes nothing.
 use Rattle.tidy.proofs.PassLaws.{pair_past, pair_not_key, filled_within}
-use borrow.Author.Rules.{rules}
 use native.Mathlib.Omega.{arith}
 use mathlib.Core.Path.{sym, ◌∙◌}
-use Prim.Native.Nat.{◌-◌}
 use Rattle.tidy.proofs.scan.past_pair.Goals as goal
 
 pub past_text-requires : goal.past_text-requires

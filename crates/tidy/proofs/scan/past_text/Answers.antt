@@ -1,12 +1,9 @@
 -- `tidy::scan::past_text` meets its contract. Assumes nothing.
 use Rattle.tidy.proofs.PassLaws.{text_past, text_not_neat, text_not_two}
-use Rattle.tidy.proofs.TwoLaws.{two_within}
 use Rattle.leaves.proofs.SearchLaws.{before_within}
 use lib.ListN.{length-drop}
-use borrow.Author.Rules.{rules}
 use native.Mathlib.Omega.{arith}
 use mathlib.Core.Path.{sym, ◌∙◌}
-use Prim.Native.Nat.{◌-◌}
 use lib.ListN.{drop}
 use Rattle.tidy.proofs.scan.past_text.Goals as goal
 

@@ -1,10 +1,7 @@
 -- `tidy::scan::scan_pairs` meets its contract. Assumes nothing.
-use Rattle.tidy.proofs.PassLaws.{pair_within}
-use Rattle.tidy.proofs.ScanLaws.{scan_ends, scan_none, scan_more, scan_stop}
 use Rattle.rebuilds.specs.Scan.{scan_pairs}
-use borrow.Author.Rules.{rules}
-use mathlib.Core.Path.{◌≡◌, refl, sym, ◌∙◌}
-use Prim.Native.Nat.{◌-◌, ◌≤◌}
+use mathlib.Core.Path.{◌≡◌}
+use Prim.Native.Nat.{◌≤◌}
 use lib.ListN.{length, drop}
 use Rattle.tidy.proofs.scan.scan_pairs.Given as goal
 

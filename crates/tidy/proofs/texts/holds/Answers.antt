@@ -1,7 +1,5 @@
 -- `tidy::texts::holds` meets its contract. Assumes nothing.
 use Rattle.tidy.proofs.TextLaws.{holds_by}
-use borrow.Author.Rules.{rules}
-use Prim.Native.Nat.{◌-◌}
 use Rattle.tidy.proofs.texts.holds.Goals as goal
 
 pub returns : goal.returns

@@ -1,8 +1,6 @@
 -- `tidy::texts::is_clean_key` meets its contract. Assumes nothing.
 use Rattle.tidy.proofs.TextLaws.{bare_key, colon_key, full_key}
-use borrow.Author.Rules.{rules}
 use mathlib.Core.Path.{sym, ◌∙◌}
-use Prim.Native.Nat.{◌-◌}
 use Rattle.tidy.proofs.texts.is_clean_key.Goals as goal
 
 pub returns-then-key-eq0 : goal.returns-then-key-eq0

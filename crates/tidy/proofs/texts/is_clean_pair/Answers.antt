@@ -1,8 +1,6 @@
 -- `tidy::texts::is_clean_pair` meets its contract. Assumes nothing.
 use Rattle.tidy.proofs.TextLaws.{pair_by, pair_not}
-use borrow.Author.Rules.{rules}
 use mathlib.Core.Path.{sym, ◌∙◌}
-use Prim.Native.Nat.{◌-◌}
 use Rattle.tidy.proofs.texts.is_clean_pair.Goals as goal
 
 pub returns-then-is_clean_key : goal.returns-then-is_clean_key

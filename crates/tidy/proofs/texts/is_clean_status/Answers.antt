@@ -1,7 +1,5 @@
 -- `tidy::texts::is_clean_status` meets its contract. Assumes nothing.
 use Rattle.tidy.proofs.TextLaws.{bare_status, full_status}
-use borrow.Author.Rules.{rules}
-use Prim.Native.Nat.{◌-◌}
 use Rattle.tidy.proofs.texts.is_clean_status.Goals as goal
 
 pub returns-then-text-eq0 : goal.returns-then-text-eq0

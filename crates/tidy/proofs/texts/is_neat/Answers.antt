@@ -1,8 +1,6 @@
 -- `tidy::texts::is_neat` meets its contract. Assumes nothing.
 use Rattle.tidy.proofs.TextLaws.{with_cr, with_lf, by_trim}
-use borrow.Author.Rules.{rules}
 use mathlib.Core.Path.{sym, ◌∙◌}
-use Prim.Native.Nat.{◌-◌}
 use Rattle.tidy.proofs.texts.is_neat.Goals as goal
 
 pub returns-then-holds : goal.returns-then-holds
