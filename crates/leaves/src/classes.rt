@@ -47,6 +47,7 @@ pub fn is_digit_class(classes: &[u8; 256], x: u8) -> bool
 }
 
 // By comparing, for hot code.
+#[tactic(auto, unfolding(crate::specs::Class::blank, crate::specs::Octets::has))]
 pub fn is_blank(x: u8) -> bool
     ensures { result ≡ blank x }
 {

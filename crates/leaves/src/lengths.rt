@@ -56,6 +56,7 @@ fn all_digits(value: &[u8]) -> bool
 }
 
 // Whether a text is one or more digits.
+#[tactic(auto, unfolding(crate::specs::Number::is_decimal))]
 pub fn is_decimal(value: &[u8]) -> bool
     ensures { result ≡ is_decimal value.now }
 {

@@ -18,7 +18,7 @@ use Rattle.maps.specs.declared.Checked.TheVariants.{Fine, Refused as Bad}
 use Rattle.maps.specs.declared.HeaderMap.{HeaderMap}
 use Rattle.maps.proofs.GoodLaws.{ready_of, checked_fine}
 use Rattle.line_reader.specs.Reading.{Reading, fed}
-use Rattle.reader.specs.Calls.{map_of, gives, feeding}
+use Rattle.reader.specs.Calls.{map_of, feeding}
 use Rattle.line_reader.specs.Standing.{rules_of, reading_of}
 use Rattle.line_reader.specs.declared.Answer.{Answer}
 use Rattle.line_reader.specs.declared.Answer.TheVariants.{More as FedMore, Blank, Input as FedInput, Refused as FedRefused}

@@ -1,8 +1,6 @@
 -- `openings::is_length` meets its contract. Assumes nothing.
 use Rattle.openings.proofs.OpenLaws.{length_tested}
-use borrow.Author.Rules.{rules}
 use mathlib.Core.Path.{sym, ◌∙◌}
-use Prim.Native.Nat.{◌-◌}
 use Rattle.openings.proofs.is_length.Goals as goal
 
 pub returns-then-is_decimal : goal.returns-then-is_decimal

@@ -1,11 +1,9 @@
 -- `openings::kind_code` meets its contract. Assumes nothing.
-use borrow.Author.Rules.{rules}
 use Rattle.standard.specs.Types.{type_code}
 use Rattle.openings.specs.Sights.{kind_code}
 use borrow.Author.Tests.{eq-eqb, ne_eqb}
 use Rattle.leaves.proofs.ChoiceLaws.{if_true, if_false}
 use mathlib.Core.Path.{sym, ap, ◌∙◌}
-use Prim.Native.Nat.{◌-◌}
 use Rattle.openings.proofs.kind_code.Goals as goal
 
 pub returns-then-times-eq0 : goal.returns-then-times-eq0

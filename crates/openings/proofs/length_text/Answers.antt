@@ -1,10 +1,8 @@
 -- `openings::length_text` meets its contract. Assumes nothing.
-use borrow.Author.Rules.{rules}
 use Rattle.openings.specs.Sights.{length_text}
 use borrow.Author.Tests.{eq-eqb, ne_eqb}
 use Rattle.leaves.proofs.ChoiceLaws.{if_true, if_false}
 use mathlib.Core.Path.{sym, ◌∙◌}
-use Prim.Native.Nat.{◌-◌}
 use Rattle.openings.proofs.length_text.Goals as goal
 
 pub returns-then-times-eq1 : goal.returns-then-times-eq1

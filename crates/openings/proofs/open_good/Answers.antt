@@ -1,10 +1,8 @@
 -- `openings::open_good` meets its contract. Assumes nothing.
-use borrow.Author.Rules.{rules}
 use Rattle.openings.proofs.OpenLaws.{opened_spots}
 use Rattle.openings.specs.Sights.{opened_at}
 use Rattle.maps.proofs.GoodLaws.{ready_of}
 use mathlib.Core.Path.{ap, ◌∙◌}
-use Prim.Native.Nat.{◌-◌}
 use Rattle.openings.proofs.open_good.Goals as goal
 
 pub spot-z-requires : goal.spot-z-requires

@@ -1,8 +1,6 @@
 -- `openings::open_record` meets its contract. Assumes nothing.
 use Rattle.openings.proofs.OpenLaws.{opening_goes, opening_refused}
-use borrow.Author.Rules.{rules}
 use mathlib.Core.Path.{sym, ◌∙◌}
-use Prim.Native.Nat.{◌-◌}
 use Rattle.openings.proofs.open_record.Goals as goal
 
 pub returns-in-Fine : goal.returns-in-Fine

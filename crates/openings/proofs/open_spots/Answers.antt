@@ -1,8 +1,6 @@
 -- `openings::open_spots` meets its contract. Assumes nothing.
-use borrow.Author.Rules.{rules}
 use Rattle.openings.proofs.OpenLaws.{spots_nine, spots_texts}
 use mathlib.Core.Path.{◌∙◌}
-use Prim.Native.Nat.{◌-◌}
 use Rattle.openings.proofs.open_spots.Goals as goal
 
 pub returns-in-Absent : goal.returns-in-Absent

@@ -1,8 +1,6 @@
 -- `openings::open_texts` meets its contract. Assumes nothing.
-use borrow.Author.Rules.{rules}
 use Rattle.openings.proofs.OpenLaws.{texts_record, texts_ten, texts_nine}
 use mathlib.Core.Path.{sym, ◌∙◌}
-use Prim.Native.Nat.{◌-◌}
 use Rattle.openings.proofs.open_texts.Goals as goal
 
 pub returns-then-is_length : goal.returns-then-is_length

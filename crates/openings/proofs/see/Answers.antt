@@ -1,7 +1,5 @@
 -- `openings::see` meets its contract. Assumes nothing.
-use borrow.Author.Rules.{rules}
 use Rattle.openings.proofs.SightLaws.{again_first, again_more}
-use Prim.Native.Nat.{◌-◌}
 use Rattle.openings.proofs.see.Goals as goal
 
 pub returns-then-z-eq0 : goal.returns-then-z-eq0

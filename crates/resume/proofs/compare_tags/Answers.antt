@@ -1,8 +1,6 @@
 -- `resume::compare_tags` meets its contract. Assumes nothing.
 use Rattle.resume.proofs.ResumeLaws.{tags_first, tags_second, tags_same, tags_differ}
-use borrow.Author.Rules.{rules}
 use mathlib.Core.Path.{sym, ◌∙◌}
-use Prim.Native.Nat.{◌-◌}
 use Rattle.resume.proofs.compare_tags.Goals as goal
 
 pub returns-then-x-eq0 : goal.returns-then-x-eq0

@@ -1,9 +1,7 @@
 -- `resume::resume` meets its contract. Assumes nothing.
 use Rattle.resume.proofs.ResumeLaws.{resume_first, resume_second, resume_whole, resume_tags}
 use Rattle.resume.specs.Resume.{is_partial}
-use borrow.Author.Rules.{rules}
 use mathlib.Core.Path.{sym, ap, ◌∙◌}
-use Prim.Native.Nat.{◌-◌}
 use Rattle.resume.proofs.resume.Goals as goal
 
 pub returns-then-is_partial : goal.returns-then-is_partial

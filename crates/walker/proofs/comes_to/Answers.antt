@@ -1,10 +1,8 @@
 -- `walker::comes_to` meets its contract. Assumes nothing.
-use borrow.Author.Rules.{rules}
 use Rattle.walker.specs.declared.Headed.TheVariants.{Opens}
 use Rattle.openings.specs.declared.Opening.{Opening}
 use Rattle.openings.proofs.OpenLaws.{opening_goes}
 use mathlib.Core.Path.{sym, ap, ◌∙◌}
-use Prim.Native.Nat.{◌-◌}
 use Rattle.walker.proofs.comes_to.Goals as goal
 
 pub returns-in-Blank : goal.returns-in-Blank

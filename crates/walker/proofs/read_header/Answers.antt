@@ -1,9 +1,7 @@
 -- `walker::read_header` meets its contract. Assumes nothing.
-use borrow.Author.Rules.{rules}
 use Rattle.walker.proofs.TrailLaws.{fed_judged, reads_by}
 use Rattle.reader.proofs.FedLaws.{fed_fits}
 use native.Mathlib.Omega.{arith}
-use Prim.Native.Nat.{◌-◌}
 use Rattle.walker.proofs.read_header.Goals as goal
 
 pub comes_to-h-requires : goal.comes_to-h-requires

@@ -1,7 +1,5 @@
 -- `walker::start` meets its contract. Assumes nothing.
-use borrow.Author.Rules.{rules}
 use Rattle.walker.proofs.WalkLaws.{starts, start_refused}
-use Prim.Native.Nat.{◌-◌}
 use Rattle.walker.proofs.start.Goals as goal
 
 pub returns-in-Fine : goal.returns-in-Fine

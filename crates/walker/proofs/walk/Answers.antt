@@ -1,7 +1,5 @@
 -- `walker::walk` meets its contract. Assumes nothing.
-use borrow.Author.Rules.{rules}
-use Rattle.walker.proofs.TrailLaws.{reads_within, walk_stays, walk_reads}
-use Prim.Native.Nat.{◌-◌}
+use Rattle.walker.proofs.TrailLaws.{walk_reads}
 use Rattle.walker.proofs.walk.Goals as goal
 
 pub returns-in-Reads : goal.returns-in-Reads

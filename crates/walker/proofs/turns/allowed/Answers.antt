@@ -1,7 +1,5 @@
 -- `walker::turns::allowed` meets its contract. Assumes nothing.
 use Rattle.walker.proofs.WalkLaws.{allowed_before, allowed_behind}
-use borrow.Author.Rules.{rules}
-use Prim.Native.Nat.{◌-◌}
 use Rattle.walker.proofs.turns.allowed.Goals as goal
 
 pub returns-then-position-lt-FURTHEST : goal.returns-then-position-lt-FURTHEST

@@ -6,7 +6,7 @@ use Rattle.walker.proofs.TrailLaws.{begins_reads}
 use Rattle.walker.proofs.WalkLaws.{between_far}
 use native.Mathlib.Omega.{arith}
 use mathlib.Core.Path.{sym, ap, ◌∙◌}
-use Prim.Native.Nat.{◌-◌, ◌≤◌}
+use Prim.Native.Nat.{◌≤◌}
 use Rattle.walker.proofs.turns.begin_header.Goals as goal
 
 pub returns-then-k-eq0 : goal.returns-then-k-eq0

@@ -1,9 +1,7 @@
 -- `walker::turns::carries_on` meets its contract. Assumes nothing.
-use borrow.Author.Rules.{rules}
 use Rattle.walker.specs.Trails.{with_map}
 use Rattle.walker.proofs.WalkLaws.{more_far, more_on}
 use mathlib.Core.Path.{refl, ap, ◌∙◌}
-use Prim.Native.Nat.{◌-◌}
 use Rattle.walker.proofs.turns.carries_on.Goals as goal
 
 pub returns-then-k-n : goal.returns-then-k-n

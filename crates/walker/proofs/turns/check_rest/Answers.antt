@@ -2,7 +2,6 @@
 use borrow.Author.Tests.{lt-ltb, le-ltb}
 use Rattle.leaves.proofs.ChoiceLaws.{if_true, if_false}
 use mathlib.Core.Path.{sym}
-use Prim.Native.Nat.{◌-◌}
 use Rattle.walker.proofs.turns.check_rest.Goals as goal
 
 pub returns-then-rest-gt-CAP : goal.returns-then-rest-gt-CAP

@@ -1,11 +1,9 @@
 -- `walker::turns::common` meets its contract. Assumes nothing.
-use Rattle.walker.proofs.WalkLaws.{common_start, common_more, common_differs, common_short, common_end}
+use Rattle.walker.proofs.WalkLaws.{common_more, common_differs, common_short, common_end}
 use borrow.Author.Rules.{rules}
-use Rattle.walker.specs.Walk.{common as commonOf}
 use native.Mathlib.Omega.{arith}
-use mathlib.Core.Path.{◌≡◌, ap, ◌∙◌}
-use Prim.Native.Nat.{ℕ, ◌+◌, ◌-◌, ◌≤◌}
-use lib.ListN.{length, drop}
+use mathlib.Core.Path.{ap, ◌∙◌}
+use Prim.Native.Nat.{ℕ, ◌+◌}
 use Rattle.walker.proofs.turns.common.Goals as goal
 
 pub loop-i-preserved : goal.loop-i-preserved

@@ -1,10 +1,7 @@
 -- `walker::turns::common` meets its contract. Assumes nothing.
-use Rattle.walker.proofs.WalkLaws.{common_start, common_more, common_differs, common_short, common_end}
-use borrow.Author.Rules.{rules}
 use Rattle.walker.specs.Walk.{common as commonOf}
-use native.Mathlib.Omega.{arith}
-use mathlib.Core.Path.{◌≡◌, ap, ◌∙◌}
-use Prim.Native.Nat.{ℕ, ◌+◌, ◌-◌, ◌≤◌}
+use mathlib.Core.Path.{◌≡◌}
+use Prim.Native.Nat.{◌+◌, ◌-◌, ◌≤◌}
 use lib.ListN.{length, drop}
 use Rattle.walker.proofs.turns.common.Given as goal
 

@@ -1,8 +1,6 @@
 -- `walker::turns::end_trail` meets its contract. Assumes nothing.
-use borrow.Author.Rules.{rules}
 use Rattle.walker.proofs.TrailLaws.{ends_rests, ends_over, ends_goes, ends_stops}
 use mathlib.Core.Path.{sym, ◌∙◌}
-use Prim.Native.Nat.{◌-◌}
 use Rattle.walker.proofs.turns.end_trail.Goals as goal
 
 pub returns-in-Stopped : goal.returns-in-Stopped

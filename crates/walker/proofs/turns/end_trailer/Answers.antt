@@ -1,9 +1,7 @@
 -- `walker::turns::end_trailer` meets its contract. Assumes nothing.
 use Rattle.walker.proofs.WalkLaws.{trailer_whole, trailer_differs, trailer_far, trailer_more}
 use Rattle.walker.specs.Trails.{walker_of}
-use borrow.Author.Rules.{rules}
 use mathlib.Core.Path.{◌∙◌}
-use Prim.Native.Nat.{◌-◌}
 use Rattle.walker.proofs.turns.end_trailer.Goals as goal
 
 pub returns-then-past-same-eq4 : goal.returns-then-past-same-eq4

@@ -2,7 +2,6 @@
 use borrow.Author.Tests.{eq-eqb, ne_eqb}
 use Rattle.leaves.proofs.ChoiceLaws.{if_true, if_false}
 use mathlib.Core.Path.{sym, ◌∙◌}
-use Prim.Native.Nat.{◌-◌}
 use Rattle.walker.proofs.turns.trailer_stage.Goals as goal
 
 pub returns-then-k-eq0 : goal.returns-then-k-eq0

@@ -1,8 +1,6 @@
 -- `walker::turns::turn` meets its contract. Assumes nothing.
-use borrow.Author.Rules.{rules}
 use Rattle.walker.proofs.TrailLaws.{turn_rests, turn_over, turn_goes, turn_stops}
 use mathlib.Core.Path.{sym, ◌∙◌}
-use Prim.Native.Nat.{◌-◌}
 use Rattle.walker.proofs.turns.turn.Goals as goal
 
 pub returns-in-Stopped : goal.returns-in-Stopped

@@ -5,7 +5,7 @@ use Rattle.walker.specs.Walk.{body_walked, trailer_walked, allowed}
 use Rattle.walker.proofs.TrailLaws.{empties, on_way, stays, way_past}
 use Rattle.walker.proofs.WalkLaws.{allowed_all}
 use mathlib.Core.Path.{sym, ◌∙◌}
-use Prim.Native.Nat.{◌-◌, ◌≤◌}
+use Prim.Native.Nat.{◌≤◌}
 use lib.ListN.{length}
 use Rattle.walker.proofs.turns.turn_on.Goals as goal
 

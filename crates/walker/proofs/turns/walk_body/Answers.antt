@@ -1,9 +1,7 @@
 -- `walker::turns::walk_body` meets its contract. Assumes nothing.
 use Rattle.walker.proofs.WalkLaws.{body_far, body_part_lem}
 use Rattle.walker.specs.Trails.{walker_of}
-use borrow.Author.Rules.{rules}
 use mathlib.Core.Path.{◌∙◌}
-use Prim.Native.Nat.{◌-◌}
 use Rattle.walker.proofs.turns.walk_body.Goals as goal
 
 pub returns-then-k-eq0 : goal.returns-then-k-eq0

@@ -4,7 +4,7 @@ use Rattle.walker.specs.Trails.{walker_of}
 use Rattle.walker.proofs.WalkLaws.{allowed_within, common_allowed, trailer_walks}
 use native.Mathlib.Omega.{arith}
 use mathlib.Core.Path.{◌∙◌}
-use Prim.Native.Nat.{◌-◌, ◌≤◌}
+use Prim.Native.Nat.{◌≤◌}
 use lib.ListN.{length}
 use Rattle.walker.proofs.turns.walk_trailer.Goals as goal
 

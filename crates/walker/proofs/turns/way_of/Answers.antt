@@ -1,9 +1,7 @@
 -- `walker::turns::way_of` meets its contract. Assumes nothing.
-use borrow.Author.Rules.{rules}
 use borrow.Author.Tests.{eq-eqb, ne_eqb}
 use Rattle.leaves.proofs.ChoiceLaws.{if_true, if_false}
 use mathlib.Core.Path.{sym}
-use Prim.Native.Nat.{◌-◌}
 use Rattle.walker.proofs.turns.way_of.Goals as goal
 
 pub returns-then-rest-eq0 : goal.returns-then-rest-eq0
