@@ -4,14 +4,12 @@ use mathlib.Core.Bool.{Bool, true, false, ◌&&◌}
 use mathlib.Core.List.{List, []}
 use Prim.Native.Nat.{ℕ}
 use native.Mathlib.Omega.{arith}
-use lib.Dec.{eqb}
 use lib.ListN.{length}
 use Rattle.leaves.specs.Choice.{when◌then◌else◌}
-use Rattle.leaves.proofs.ChoiceLaws.{if_true, if_false, and_left, and_right, and_both, and_false}
+use Rattle.leaves.proofs.ChoiceLaws.{if_true, if_false, and_both, and_false}
 use Rattle.maps.specs.Maps.{Given, Is}
 use Rattle.maps.specs.Heads.{head_of as headIn}
 use Rattle.maps.specs.declared.Head.{Head}
-use Rattle.maps.specs.declared.HeaderMap.{HeaderMap}
 use Rattle.walker.specs.Answers.{start_answer}
 use Rattle.walker.specs.Trails.{walker_of}
 use Rattle.walker.specs.declared.Step.{Step}

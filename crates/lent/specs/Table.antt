@@ -1,5 +1,5 @@
 -- A table of fields in lent numbers: four to a field, two to a place. Assumes nothing.
-use Rattle.std.specs.Prelude.{Bool, false, ◌&&◌, List, [], ◌∷◌, ◌++◌, ℕ, zero, suc, ◌+◌, ◌*◌, ◌-◌, min, leb, ltb, get_or, set, replicate}
+use Rattle.std.specs.Prelude.{Bool, false, ◌&&◌, List, [], ◌∷◌, ℕ, zero, suc, ◌+◌, ◌*◌, ◌-◌, min, leb, ltb, get_or, set, replicate}
 use Rattle.leaves.specs.Choice.{when◌then◌else◌}
 use Rattle.leaves.specs.Paste.{lay}
 use Rattle.maps.specs.Places.{in_block, in_store, no_field}

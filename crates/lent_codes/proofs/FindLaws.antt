@@ -1,15 +1,11 @@
 -- A field that is found in a lent table: which it is, and its value. Assumes nothing.
 use mathlib.Core.Path.{◌≡◌, refl, sym, ap, ◌∙◌}
-use mathlib.Core.Bool.{Bool, true, false}
-use mathlib.Core.List.{List, [], ◌∷◌}
-use Prim.Native.Nat.{ℕ, ◌+◌, ◌-◌, ◌≤◌, ◌<◌}
+use mathlib.Core.List.{List}
+use Prim.Native.Nat.{ℕ, ◌-◌, ◌≤◌, ◌<◌}
 use native.Mathlib.Omega.{arith}
-use lib.ListN.{length}
-use Rattle.leaves.specs.Choice.{when◌then◌else◌}
 use Rattle.leaves.proofs.ChoiceLaws.{clash}
 use Rattle.maps.specs.Places.{at}
 use Rattle.maps.specs.Good.{checked_done}
-use Rattle.maps.specs.declared.Field.{Field}
 use Rattle.maps.specs.declared.Head.{Head}
 use Rattle.maps.specs.declared.Checked.{Checked}
 use Rattle.maps.specs.declared.Checked.TheVariants.{Fine, Refused as Bad}

@@ -2,8 +2,7 @@
 use Rattle.maps.proofs.GoodBy.{counts_few}
 use Rattle.maps.proofs.GoodLaws.{and_go, and_stop}
 use Rattle.maps.specs.Good.{good, good_fields}
-use Rattle.lent.proofs.LentLaws.{fields_take, count_small}
-use borrow.Author.Rules.{rules}
+use Rattle.lent.proofs.LentLaws.{fields_take}
 use mathlib.Core.Path.{sym, ap, ◌∙◌}
 use Rattle.lent.proofs.is_good.Goals as goal
 

@@ -1,7 +1,6 @@
 -- `lent::is_sound` meets its contract. Assumes nothing.
 use Rattle.maps.proofs.GoodLaws.{and_go, and_stop}
 use Rattle.lent.specs.Numbers.{sound_map}
-use borrow.Author.Rules.{rules}
 use mathlib.Core.Path.{sym, ◌∙◌}
 use Rattle.lent.proofs.is_sound.Goals as goal
 

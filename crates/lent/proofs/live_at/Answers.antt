@@ -1,7 +1,5 @@
 -- `lent::live_at` meets its contract. Assumes nothing.
-use Rattle.lent.specs.Table.{live_in}
 use Rattle.lent.proofs.LentLaws.{sound_parts}
-use mathlib.Core.Path.{◌∙◌, ap}
 use Rattle.lent.proofs.live_at.Goals as goal
 
 pub head_at-h-requires : goal.head_at-h-requires

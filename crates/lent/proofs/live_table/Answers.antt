@@ -1,13 +1,11 @@
 -- `lent::live_table` meets its contract. Assumes nothing.
-use lib.ListN.{replicate, length}
-use lib.Seq.{paste, paste-zero}
+use lib.ListN.{replicate}
 use Rattle.maps.specs.Places.{no_field}
-use Rattle.lent.specs.Table.{table_of}
 use Rattle.lent.proofs.LentLaws.{out_step, out_end}
 use borrow.Author.Rules.{rules}
 use native.Mathlib.Omega.{arith}
-use mathlib.Core.Path.{◌≡◌, refl}
-use Prim.Native.Nat.{◌-◌, ◌≤◌, ◌<◌}
+use mathlib.Core.Path.{refl}
+use Prim.Native.Nat.{◌<◌}
 use Rattle.lent.proofs.live_table.Goals as goal
 
 pub loop-i-preserved : goal.loop-i-preserved

@@ -2,9 +2,7 @@
 use Rattle.lookups.proofs.SeekLaws.{find_refused}
 use Rattle.lent.specs.Table.{map_in}
 use Rattle.lent_codes.proofs.FindLaws.{find_few, find_lent}
-use borrow.Author.Rules.{rules}
 use mathlib.Core.Path.{sym, ◌∙◌}
-use Prim.Native.Nat.{◌-◌}
 use Rattle.lent_codes.proofs.find.Goals as goal
 
 pub find-requires : goal.find-requires

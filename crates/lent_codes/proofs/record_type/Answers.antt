@@ -4,9 +4,7 @@ use Rattle.standard.specs.Names.{name_of}
 use Rattle.standard.specs.declared.names.WarcHeader.TheVariants.{WarcType}
 use Rattle.lent.specs.Table.{map_in}
 use Rattle.lent_codes.proofs.FindLaws.{found_small, found_value}
-use borrow.Author.Rules.{rules}
 use mathlib.Core.Path.{sym, ◌∙◌}
-use Prim.Native.Nat.{◌-◌}
 use Rattle.lent_codes.proofs.record_type.Goals as goal
 
 pub value-text-requires : goal.value-text-requires

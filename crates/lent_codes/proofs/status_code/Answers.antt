@@ -1,9 +1,7 @@
 -- `lent_codes::status_code` meets its contract. Assumes nothing.
 use Rattle.codes.proofs.MapLaws.{code_fine, code_refused}
 use Rattle.lent.specs.Table.{map_in}
-use borrow.Author.Rules.{rules}
 use mathlib.Core.Path.{sym, ◌∙◌}
-use Prim.Native.Nat.{◌-◌}
 use Rattle.lent_codes.proofs.status_code.Goals as goal
 
 pub returns-in-Fine : goal.returns-in-Fine

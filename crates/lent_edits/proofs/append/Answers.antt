@@ -1,8 +1,6 @@
 -- `lent_edits::append` meets its contract. Assumes nothing.
 use Rattle.edits.specs.Edits.{appending}
 use Rattle.edits.proofs.EditLaws.{is_by, edit_refused, append_is}
-use borrow.Author.Rules.{rules}
-use native.Mathlib.Omega.{arith}
 use mathlib.Core.Path.{sym, ◌∙◌}
 use Rattle.lent_edits.proofs.append.Goals as goal
 

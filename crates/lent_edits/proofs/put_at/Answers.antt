@@ -1,5 +1,4 @@
 -- `lent_edits::put_at` meets its contract. Assumes nothing.
-use borrow.Author.Rules.{rules}
 use native.Mathlib.Omega.{arith}
 use mathlib.Core.Path.{sym, ◌∙◌}
 use Rattle.maps.proofs.GoodLaws.{ready_of}

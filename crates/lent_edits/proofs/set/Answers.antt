@@ -3,7 +3,6 @@ use Rattle.maps.proofs.GoodLaws.{ready_of}
 use Rattle.edits.specs.Edits.{setting}
 use Rattle.edits.proofs.EditLaws.{is_by, edit_refused, set_is}
 use Rattle.lent.specs.Table.{map_in}
-use borrow.Author.Rules.{rules}
 use mathlib.Core.Path.{sym, ◌∙◌}
 use Rattle.lent_edits.proofs.set.Goals as goal
 

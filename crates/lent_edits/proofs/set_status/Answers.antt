@@ -4,7 +4,6 @@ use Rattle.maps.proofs.GoodLaws.{ready_of}
 use Rattle.edits.specs.Edits.{statusing}
 use Rattle.edits.proofs.EditLaws.{edit_refused, status_room, status_done}
 use Rattle.lent.specs.Table.{map_in}
-use borrow.Author.Rules.{rules}
 use native.Mathlib.Omega.{arith}
 use mathlib.Core.Path.{◌≡◌, sym, ◌∙◌}
 use mathlib.Core.Bool.{true}

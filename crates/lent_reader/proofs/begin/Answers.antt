@@ -1,7 +1,5 @@
 -- `lent_reader::begin` meets its contract. Assumes nothing.
-use borrow.Author.Rules.{rules}
 use mathlib.Core.Path.{sym, ◌∙◌}
-use Prim.Native.Nat.{◌-◌}
 use Rattle.maps.specs.Heads.{under}
 use Rattle.maps.specs.declared.Checked.TheVariants.{Fine, Refused as Refuses}
 use Rattle.reader.proofs.CallLaws.{begun}

@@ -1,7 +1,5 @@
 -- `lent_reader::clear` meets its contract. Assumes nothing.
-use borrow.Author.Rules.{rules}
 use mathlib.Core.Path.{refl, sym, ◌∙◌}
-use Prim.Native.Nat.{◌-◌}
 use Rattle.reader.proofs.CallLaws.{clearing_goes, clearing_stops}
 use Rattle.lent.specs.Table.{map_in}
 use Rattle.lent_reader.proofs.clear.Goals as goal

@@ -1,7 +1,5 @@
 -- `lent_reader::feed` meets its contract. Assumes nothing.
-use borrow.Author.Rules.{rules}
 use mathlib.Core.Path.{◌≡◌, refl, sym, ◌∙◌}
-use Prim.Native.Nat.{◌-◌}
 use Rattle.maps.proofs.GoodLaws.{ready_of}
 use Rattle.maps.specs.Good.{checked_reading}
 use Rattle.maps.specs.declared.Checked.TheVariants.{Fine, Refused as Refuses}

@@ -1,13 +1,9 @@
 -- `lent_reader::feed_lines` meets its contract. Assumes nothing.
-use borrow.Author.Rules.{rules}
-use native.Mathlib.Omega.{arith}
-use mathlib.Core.Path.{◌≡◌, sym, ◌∙◌}
-use Prim.Native.Nat.{◌+◌, ◌-◌}
-use lib.ListN.{length}
-use Rattle.line_reader.proofs.HeldLaws.{Feeding, feeding_start, feeding_on, later, one, handled_less}
+use mathlib.Core.Path.{◌∙◌}
+use Rattle.line_reader.proofs.HeldLaws.{feeding_start, feeding_on, later, handled_less}
 use Rattle.line_reader.proofs.LineSteps.{able, handled_is}
 use Rattle.reader.proofs.EndLaws.{feed_end}
-use Rattle.lent.specs.Table.{table_of, map_in}
+use Rattle.lent.specs.Table.{table_of}
 use Rattle.lent.proofs.LentLaws.{fields_length}
 use Rattle.lent_reader.proofs.LentSteps.{seated_in}
 use Rattle.lent_reader.proofs.feed_lines.Goals as goal

@@ -1,5 +1,4 @@
 -- `lent_reader::finish` meets its contract. Assumes nothing.
-use borrow.Author.Rules.{rules}
 use mathlib.Core.Path.{◌≡◌, refl, sym, ◌∙◌}
 use Rattle.maps.proofs.GoodLaws.{ready_of}
 use Rattle.maps.specs.Good.{checked_reading}

@@ -1,5 +1,4 @@
 -- `lent_reader::finish_line` meets its contract. Assumes nothing.
-use borrow.Author.Rules.{rules}
 use mathlib.Core.Path.{refl}
 use mathlib.Core.List.{[]}
 use Rattle.line_reader.proofs.HeldLaws.{held_start}

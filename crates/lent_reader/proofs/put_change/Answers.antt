@@ -1,6 +1,4 @@
 -- `lent_reader::put_change` meets its contract. Assumes nothing.
-use borrow.Author.Rules.{rules}
-use native.Mathlib.Omega.{arith}
 use mathlib.Core.Path.{ap, ◌∙◌}
 use Rattle.lent.specs.Table.{table_of}
 use Rattle.lent.proofs.LentLaws.{fields_set}

@@ -1,11 +1,9 @@
 -- `lent_walker::open_good` meets its contract. Assumes nothing.
-use borrow.Author.Rules.{rules}
 use Rattle.lent.specs.Table.{map_in}
 use Rattle.openings.proofs.OpenLaws.{opened_spots, opening_goes}
 use Rattle.openings.specs.Sights.{opened_at}
 use Rattle.maps.proofs.GoodLaws.{ready_of}
 use mathlib.Core.Path.{sym, ap, ◌∙◌}
-use Prim.Native.Nat.{◌-◌}
 use Rattle.lent_walker.proofs.open_good.Goals as goal
 
 pub spot-z-requires : goal.spot-z-requires

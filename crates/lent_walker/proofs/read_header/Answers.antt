@@ -1,5 +1,4 @@
 -- `lent_walker::read_header` meets its contract. Assumes nothing.
-use borrow.Author.Rules.{rules}
 use Rattle.lent_walker.specs.Lent.{walked_in}
 use Rattle.lent_reader.specs.Lent.{fed_in}
 use Rattle.lent.specs.Table.{map_in}
@@ -7,7 +6,6 @@ use Rattle.walker.proofs.TrailLaws.{fed_judged, reads_by}
 use Rattle.reader.proofs.FedLaws.{fed_fits}
 use native.Mathlib.Omega.{arith}
 use mathlib.Core.Path.{ap, ◌∙◌}
-use Prim.Native.Nat.{◌-◌}
 use Rattle.lent_walker.proofs.read_header.Goals as goal
 
 pub comes_to-came-requires : goal.comes_to-came-requires

@@ -1,11 +1,7 @@
 -- `lent_walker::spot` meets its contract. Assumes nothing.
-use Rattle.lent_walker.proofs.SpotLaws.{table_next, spots_end}
-use Rattle.openings.proofs.SightLaws.{Passing, passing_start, passing_more}
-use Rattle.lent.specs.Table.{field_at, table_of}
-use borrow.Author.Rules.{rules}
-use native.Mathlib.Omega.{arith}
-use mathlib.Core.Path.{◌∙◌}
-use Prim.Native.Nat.{◌-◌, ◌<◌}
+use Rattle.openings.proofs.SightLaws.{Passing}
+use Rattle.lent.specs.Table.{table_of}
+use Prim.Native.Nat.{◌-◌}
 use lib.ListN.{take}
 use Rattle.lent_walker.proofs.spot.Given as goal
 

@@ -1,11 +1,9 @@
 -- `lent_walker::start` meets its contract. Assumes nothing.
-use borrow.Author.Rules.{rules}
 use Rattle.lent_reader.specs.Lent.{made_in}
 use Rattle.maps.specs.declared.Head.{Head}
 use Rattle.maps.specs.Heads.{under}
 use Rattle.walker.proofs.WalkLaws.{starts, start_refused}
 use mathlib.Core.Path.{ap}
-use Prim.Native.Nat.{◌-◌}
 use Rattle.lent_walker.proofs.start.Goals as goal
 
 pub returns-in-Fine : goal.returns-in-Fine

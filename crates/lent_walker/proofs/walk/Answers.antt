@@ -1,10 +1,8 @@
 -- `lent_walker::walk` meets its contract. Assumes nothing.
-use borrow.Author.Rules.{rules}
-use Rattle.lent_walker.specs.Lent.{walker_in, walked_in}
+use Rattle.lent_walker.specs.Lent.{walker_in}
 use Rattle.lent.specs.Table.{map_in}
-use Rattle.walker.proofs.TrailLaws.{reads_within, walk_stays, walk_reads}
+use Rattle.walker.proofs.TrailLaws.{walk_reads}
 use mathlib.Core.Path.{refl, ap}
-use Prim.Native.Nat.{◌-◌}
 use Rattle.lent_walker.proofs.walk.Goals as goal
 
 pub returns-in-Reads : goal.returns-in-Reads

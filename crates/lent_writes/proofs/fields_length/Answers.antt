@@ -1,18 +1,12 @@
 -- `lent_writes::fields_length` meets its contract. Assumes nothing.
-use Rattle.maps.specs.Said.{pair_at}
-use Rattle.writes.specs.Written.{pair_lines}
 use Rattle.writes.proofs.FormLaws.{lines_length, lines_none}
-use Rattle.lent.specs.Table.{fields_from}
 use Rattle.lent.proofs.LentLaws.{from_end}
-use Rattle.lent_writes.proofs.TurnLaws.{turn_start, turn_more}
+use Rattle.lent_writes.proofs.TurnLaws.{turn_more}
 use borrow.Author.Rules.{rules}
 use native.Mathlib.Omega.{arith}
-use native.Mathlib.Nat.{zero-add}
-use mathlib.Core.Path.{◌≡◌, ap, ◌∙◌}
-use mathlib.Core.List.{List, map}
-use Prim.Native.Nat.{◌+◌, ◌-◌, ◌*◌, ◌≤◌, ◌<◌}
+use mathlib.Core.Path.{ap}
+use Prim.Native.Nat.{◌≤◌, ◌<◌}
 use lib.ListN.{length}
-use Rattle.maps.specs.declared.Field.{Field}
 use Rattle.lent_writes.proofs.fields_length.Goals as goal
 
 pub loop-i-preserved : goal.loop-i-preserved

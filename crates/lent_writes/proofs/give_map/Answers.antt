@@ -2,9 +2,7 @@
 use Rattle.writes.proofs.WriteLaws.{form_short, form_done}
 use Rattle.lent.specs.Table.{map_in}
 use Rattle.lent.proofs.LentLaws.{fields_take}
-use borrow.Author.Rules.{rules}
 use native.Mathlib.Omega.{arith}
-use Prim.Native.Nat.{◌-◌}
 use Rattle.lent_writes.proofs.give_map.Goals as goal
 
 pub returns-then-out-size : goal.returns-then-out-size

@@ -2,9 +2,7 @@
 use Rattle.maps.proofs.GoodLaws.{ready_of}
 use Rattle.writes.proofs.WriteLaws.{rebuild_refused, rebuild_fine}
 use Rattle.lent.specs.Table.{map_in}
-use borrow.Author.Rules.{rules}
 use mathlib.Core.Path.{sym, ◌∙◌}
-use Prim.Native.Nat.{◌-◌}
 use Rattle.lent_writes.proofs.rebuild.Goals as goal
 
 pub give_map-requires : goal.give_map-requires

@@ -2,7 +2,6 @@
 use Rattle.maps.proofs.GoodLaws.{ready_of}
 use Rattle.writes.proofs.WriteLaws.{rebuild_fine, write_refused, write_rebuilt, write_plain}
 use Rattle.lent.specs.Table.{map_in}
-use borrow.Author.Rules.{rules}
 use native.Mathlib.Omega.{arith}
 use mathlib.Core.Path.{◌≡◌, sym, ◌∙◌}
 use Prim.Native.Nat.{◌-◌}

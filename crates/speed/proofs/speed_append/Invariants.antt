@@ -1,10 +1,5 @@
 -- `speed::speed_append` is safe and ends. Assumes nothing.
-use Rattle.speed.proofs.speed_append.Reads as reads
-use Rattle.speed.proofs.speed_append.Lts as lts
-use Rattle.edits.proofs.append.Reads as append-reads
-use Rattle.edits.proofs.remove.Reads as remove-reads
-use Rattle.speed.proofs.map_of.Reads as map-of-reads
-use Rattle.std.proofs.Common.{◌≡◌, ℕ, suc, ◌+◌, ◌-◌, ◌<◌, ◌≤◌, true, false, length, get_or, take, drop, sym, refl, ap, ◌∙◌, arith, rules}
+use Rattle.std.proofs.Common.{◌≡◌, ◌-◌, ◌≤◌, length}
 use Rattle.speed.proofs.speed_append.Given as goal
 
 abbrev pub invariant-loop-i : goal.invariant-loop-i

@@ -1,5 +1,5 @@
 -- `speed::speed_walk` is safe and ends. Assumes nothing.
-use Rattle.std.proofs.Common.{◌≡◌, ◌-◌, ◌≤◌, length, rules}
+use Rattle.std.proofs.Common.{◌≡◌, ◌-◌, ◌≤◌, length}
 use Rattle.speed.proofs.speed_walk.Given as goal
 
 abbrev pub invariant-loop-i : goal.invariant-loop-i

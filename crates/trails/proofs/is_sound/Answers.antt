@@ -2,7 +2,6 @@
 use Rattle.maps.proofs.GoodLaws.{and_go, and_stop}
 use Rattle.trails.specs.Trail.{sound_trail}
 use borrow.Author.Tests.{eq-eqb, ne_eqb}
-use borrow.Author.Rules.{rules}
 use Rattle.trails.proofs.is_sound.Goals as goal
 
 pub returns-then-n-eq-TRAIL : goal.returns-then-n-eq-TRAIL

@@ -3,7 +3,6 @@ use borrow.Author.Tests.{lt-ltb, le-ltb}
 use Rattle.leaves.proofs.ChoiceLaws.{if_true, if_false}
 use Rattle.walker.specs.declared.Stage.TheVariants.{Stopped}
 use Rattle.trails.specs.Trail.{stage_of}
-use borrow.Author.Rules.{rules}
 use mathlib.Core.Path.{sym, ap, ◌∙◌}
 use Rattle.trails.proofs.stage_of.Goals as goal
 

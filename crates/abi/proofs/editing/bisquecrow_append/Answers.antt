@@ -3,7 +3,6 @@ use Rattle.abi.proofs.CallLaws.{changed, gave_sound, gave_damaged}
 use Rattle.abi.specs.Calls.{append_gives, edit_answer, no_numbers, edit_map}
 use Rattle.lent.proofs.LentLaws.{sound_parts, sound_long}
 use mathlib.Core.Path.{refl, sym, ◌∙◌}
-use borrow.Author.Rules.{rules}
 use Rattle.abi.proofs.editing.bisquecrow_append.Goals as goal
 
 pub head_at-h-requires : goal.head_at-h-requires

@@ -1,7 +1,6 @@
 -- `abi::looking::bisquecrow_fields` meets its contract. Assumes nothing.
 use Rattle.abi.proofs.CallLaws.{opens, fields_fine, fields_refused}
 use Rattle.lent.proofs.LentLaws.{sound_long}
-use borrow.Author.Rules.{rules}
 use native.Mathlib.Omega.{arith}
 use mathlib.Core.Path.{refl, sym, ◌∙◌}
 use Rattle.abi.proofs.looking.bisquecrow_fields.Goals as goal

@@ -2,7 +2,6 @@
 use Rattle.abi.proofs.CallLaws.{opens, few, sought, seek_below, sees_fine, sees_refused}
 use Rattle.lookups.specs.Lookups.{named}
 use Rattle.lent.proofs.LentLaws.{sound_parts, sound_long}
-use borrow.Author.Rules.{rules}
 use mathlib.Core.Path.{sym, ◌∙◌}
 use Rattle.abi.proofs.looking.bisquecrow_find.Goals as goal
 

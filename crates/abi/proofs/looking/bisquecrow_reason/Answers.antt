@@ -1,7 +1,6 @@
 -- `abi::looking::bisquecrow_reason` meets its contract. Assumes nothing.
 use Rattle.abi.proofs.CallLaws.{opens, lies_fine, lies_refused, status_there}
 use Rattle.lent.proofs.LentLaws.{sound_parts}
-use borrow.Author.Rules.{rules}
 use mathlib.Core.Path.{refl, sym, ◌∙◌}
 use Rattle.abi.proofs.looking.bisquecrow_reason.Goals as goal
 

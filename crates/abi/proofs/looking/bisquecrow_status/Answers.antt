@@ -1,7 +1,6 @@
 -- `abi::looking::bisquecrow_status` meets its contract. Assumes nothing.
 use Rattle.abi.proofs.CallLaws.{opens, lies_fine, lies_refused, status_there}
 use Rattle.lent.proofs.LentLaws.{sound_parts}
-use borrow.Author.Rules.{rules}
 use mathlib.Core.Path.{sym, ◌∙◌}
 use Rattle.abi.proofs.looking.bisquecrow_status.Goals as goal
 

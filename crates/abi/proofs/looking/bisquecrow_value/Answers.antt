@@ -1,7 +1,6 @@
 -- `abi::looking::bisquecrow_value` meets its contract. Assumes nothing.
 use Rattle.abi.proofs.CallLaws.{opens, lies_fine, lies_refused, few, slot_there, slot_none}
 use Rattle.lent.proofs.LentLaws.{sound_long}
-use borrow.Author.Rules.{rules}
 use native.Mathlib.Omega.{arith}
 use mathlib.Core.Path.{refl, sym, ◌∙◌}
 use Rattle.abi.proofs.looking.bisquecrow_value.Goals as goal

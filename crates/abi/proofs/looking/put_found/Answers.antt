@@ -1,6 +1,5 @@
 -- `abi::looking::put_found` meets its contract. Assumes nothing.
-use Rattle.abi.proofs.CallLaws.{found_few, seen_found, seen_missing, seen_refused}
-use borrow.Author.Rules.{rules}
+use Rattle.abi.proofs.CallLaws.{seen_found}
 use Rattle.abi.proofs.looking.put_found.Goals as goal
 
 pub returns-in-Nth : goal.returns-in-Nth

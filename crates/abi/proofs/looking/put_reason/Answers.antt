@@ -1,10 +1,7 @@
 -- `abi::looking::put_reason` meets its contract. Assumes nothing.
-use Rattle.maps.specs.Places.{at}
-use Rattle.codes.specs.Line.{reason_start}
-use Rattle.codes.proofs.LineLaws.{told_at, told_none, start_within}
-use borrow.Author.Rules.{rules}
+use Rattle.codes.proofs.LineLaws.{told_at, start_within}
 use native.Mathlib.Omega.{arith}
-use mathlib.Core.Path.{refl, sym, ◌∙◌}
+use mathlib.Core.Path.{sym, ◌∙◌}
 use Rattle.abi.proofs.looking.put_reason.Goals as goal
 
 pub put_rest-requires : goal.put_rest-requires

@@ -2,7 +2,6 @@
 use Rattle.abi.proofs.CallLaws.{open_sound, open_damaged}
 use Rattle.lent.proofs.LentLaws.{sound_parts}
 use mathlib.Core.Path.{sym, ◌∙◌}
-use borrow.Author.Rules.{rules}
 use Rattle.abi.proofs.opening.open.Goals as goal
 
 pub head_at-h-requires : goal.head_at-h-requires

@@ -3,7 +3,6 @@ use Rattle.abi.proofs.CallLaws.{long_head, begun_fine, begun_refused, gave_sound
 use Rattle.abi.specs.Calls.{begin_gives}
 use Rattle.lent.specs.Table.{table_of}
 use mathlib.Core.Path.{sym, ◌∙◌}
-use borrow.Author.Rules.{rules}
 use Rattle.abi.proofs.reading.bisquecrow_begin.Goals as goal
 
 pub put_head-requires : goal.put_head-requires

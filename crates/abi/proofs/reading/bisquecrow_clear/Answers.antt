@@ -3,7 +3,6 @@ use Rattle.abi.proofs.CallLaws.{changed, gave_sound, gave_damaged}
 use Rattle.abi.specs.Calls.{clear_gives, made_answer, no_numbers, made_map}
 use Rattle.lent.proofs.LentLaws.{sound_parts, sound_long}
 use mathlib.Core.Path.{refl, sym, ◌∙◌}
-use borrow.Author.Rules.{rules}
 use Rattle.abi.proofs.reading.bisquecrow_clear.Goals as goal
 
 pub head_at-h-requires : goal.head_at-h-requires

@@ -1,7 +1,6 @@
 -- `abi::telling::bisquecrow_clean` meets its contract. Assumes nothing.
 use Rattle.abi.proofs.TellLaws.{clean_live}
 use Rattle.leaves.proofs.ChoiceLaws.{if_false}
-use borrow.Author.Rules.{rules}
 use mathlib.Core.Path.{sym, ◌∙◌}
 use Rattle.abi.proofs.telling.bisquecrow_clean.Goals as goal
 

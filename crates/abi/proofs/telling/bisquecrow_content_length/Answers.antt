@@ -5,7 +5,6 @@ use Rattle.abi.proofs.TellLaws.{told_head}
 use Rattle.abi.specs.Calls.{length_number}
 use Rattle.codes.specs.Answers.{length_answer as length_of}
 use Rattle.codes.specs.Codes.{length_of as lengthIn}
-use borrow.Author.Rules.{rules}
 use mathlib.Core.Path.{sym, ◌∙◌}
 use Rattle.abi.proofs.telling.bisquecrow_content_length.Goals as goal
 

@@ -1,6 +1,5 @@
 -- `abi::telling::bisquecrow_grammatical` meets its contract. Assumes nothing.
 use Rattle.leaves.proofs.ChoiceLaws.{if_true, if_false}
-use borrow.Author.Rules.{rules}
 use mathlib.Core.Path.{sym, ◌∙◌}
 use Rattle.abi.proofs.telling.bisquecrow_grammatical.Goals as goal
 

@@ -5,7 +5,6 @@ use Rattle.abi.proofs.TellLaws.{told_head}
 use Rattle.abi.specs.Calls.{kind_number}
 use Rattle.codes.specs.Answers.{kind_answer as kind_of}
 use Rattle.codes.specs.Codes.{kind_of as kindIn}
-use borrow.Author.Rules.{rules}
 use mathlib.Core.Path.{sym, ◌∙◌}
 use Rattle.abi.proofs.telling.bisquecrow_record_type.Goals as goal
 

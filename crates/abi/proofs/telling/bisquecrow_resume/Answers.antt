@@ -1,7 +1,6 @@
 -- `abi::telling::bisquecrow_resume` meets its contract. Assumes nothing.
 use Rattle.abi.proofs.CallLaws.{opens, two_refused, two_second, two_both}
 use Rattle.abi.proofs.TellLaws.{resume_live}
-use borrow.Author.Rules.{rules}
 use mathlib.Core.Path.{sym, ◌∙◌}
 use Rattle.abi.proofs.telling.bisquecrow_resume.Goals as goal
 

@@ -5,7 +5,6 @@ use Rattle.abi.proofs.TellLaws.{told_head}
 use Rattle.abi.specs.Calls.{code_number}
 use Rattle.codes.specs.Answers.{code_answer as code_of}
 use Rattle.codes.specs.Codes.{coding}
-use borrow.Author.Rules.{rules}
 use mathlib.Core.Path.{sym, ◌∙◌}
 use Rattle.abi.proofs.telling.bisquecrow_status_code.Goals as goal
 

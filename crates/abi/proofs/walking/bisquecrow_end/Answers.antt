@@ -4,7 +4,6 @@ use Rattle.abi.specs.Calls.{end_gives, no_numbers}
 use Rattle.lent.proofs.LentLaws.{sound_parts, sound_long}
 use Rattle.trails.proofs.TrailLaws.{sound_four}
 use mathlib.Core.Path.{refl, sym, ◌∙◌}
-use borrow.Author.Rules.{rules}
 use Rattle.abi.proofs.walking.bisquecrow_end.Goals as goal
 
 pub trail_at-w-requires : goal.trail_at-w-requires

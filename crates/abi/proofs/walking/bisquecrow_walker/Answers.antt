@@ -5,7 +5,6 @@ use Rattle.abi.specs.Calls.{walker_gives}
 use Rattle.lent.specs.Table.{table_of}
 use borrow.Author.Tests.{eq-eqb, ne_eqb}
 use mathlib.Core.Path.{sym, ◌∙◌}
-use borrow.Author.Rules.{rules}
 use Rattle.abi.proofs.walking.bisquecrow_walker.Goals as goal
 
 pub put_head-requires : goal.put_head-requires

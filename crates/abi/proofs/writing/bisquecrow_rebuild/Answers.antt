@@ -3,7 +3,6 @@ use Rattle.lent.proofs.LentLaws.{sound_parts}
 use Rattle.abi.proofs.CallLaws.{put_damaged}
 use Rattle.abi.proofs.TellLaws.{put_head}
 use Rattle.writes.specs.Written.{rebuilding}
-use borrow.Author.Rules.{rules}
 use mathlib.Core.Path.{sym, ◌∙◌}
 use Rattle.abi.proofs.writing.bisquecrow_rebuild.Goals as goal
 

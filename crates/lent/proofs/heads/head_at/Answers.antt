@@ -1,6 +1,5 @@
 -- `lent::heads::head_at` meets its contract. Assumes nothing.
 use Rattle.lent.proofs.LentLaws.{head_long, head_status}
-use borrow.Author.Rules.{rules}
 use native.Mathlib.Omega.{arith}
 use Rattle.lent.proofs.heads.head_at.Goals as goal
 

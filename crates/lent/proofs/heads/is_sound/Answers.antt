@@ -2,7 +2,6 @@
 use borrow.Author.Tests.{eq-eqb, ne_eqb, le-leb, lt-leb}
 use Rattle.maps.proofs.GoodLaws.{and_go, and_stop}
 use Rattle.lent.specs.Numbers.{sound_head}
-use borrow.Author.Rules.{rules}
 use mathlib.Core.Path.{sym, ◌∙◌}
 use Rattle.lent.proofs.heads.is_sound.Goals as goal
 

@@ -1,9 +1,6 @@
 -- `lent::heads::put_head` meets its contract. Assumes nothing.
-use lib.ListN.{length-set}
 use Rattle.lent.specs.Numbers.{head_numbers}
 use Rattle.lent.proofs.LentLaws.{stored}
-use borrow.Author.Rules.{rules}
-use native.Mathlib.Omega.{arith}
 use mathlib.Core.Path.{refl}
 use Rattle.lent.proofs.heads.put_head.Goals as goal
 

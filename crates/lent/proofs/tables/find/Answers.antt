@@ -3,13 +3,11 @@ use mathlib.Core.List.{List}
 use Rattle.leaves.specs.Name.{same_name}
 use Rattle.maps.specs.Places.{at}
 use Rattle.maps.specs.declared.Place.{Place}
-use Rattle.lookups.specs.Lookups.{named, seeking}
-use Rattle.lent.specs.Table.{fields_from}
+use Rattle.lookups.specs.Lookups.{named}
 use Rattle.lent.proofs.LentLaws.{seek_hit, seek_more, seek_end}
-use borrow.Author.Rules.{rules}
 use native.Mathlib.Omega.{arith}
-use mathlib.Core.Path.{◌≡◌, refl, sym, ap, ◌∙◌}
-use Prim.Native.Nat.{ℕ, ◌-◌, ◌<◌}
+use mathlib.Core.Path.{sym, ap, ◌∙◌}
+use Prim.Native.Nat.{ℕ, ◌<◌}
 use Rattle.lent.proofs.tables.find.Goals as goal
 
 pub returns-then-same_name : goal.returns-then-same_name

@@ -1,12 +1,8 @@
 -- `lent::tables::good_fields` meets its contract. Assumes nothing.
-use Rattle.maps.proofs.GoodLaws.{and_go, and_stop}
-use Rattle.maps.specs.Good.{good_field, good_fields}
+use Rattle.maps.specs.Good.{good_fields}
 use Rattle.lent.specs.Table.{fields_from}
-use Rattle.lent.proofs.LentLaws.{good_next, good_end}
-use borrow.Author.Rules.{rules}
-use native.Mathlib.Omega.{arith}
-use mathlib.Core.Path.{◌≡◌, sym, ap, ◌∙◌}
-use Prim.Native.Nat.{ℕ, ◌-◌, ◌<◌}
+use mathlib.Core.Path.{◌≡◌}
+use Prim.Native.Nat.{◌-◌}
 use Rattle.lent.proofs.tables.good_fields.Given as goal
 
 abbrev pub invariant-loop-i : goal.invariant-loop-i

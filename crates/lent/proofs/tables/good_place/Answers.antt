@@ -1,6 +1,5 @@
 -- `lent::tables::good_place` meets its contract. Assumes nothing.
 use Rattle.lent.proofs.LentLaws.{place_plain, place_over, place_turned}
-use borrow.Author.Rules.{rules}
 use mathlib.Core.Path.{◌∙◌}
 use Rattle.lent.proofs.tables.good_place.Goals as goal
 

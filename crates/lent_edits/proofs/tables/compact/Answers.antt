@@ -3,12 +3,11 @@ use mathlib.Core.List.{List}
 use Rattle.leaves.specs.Name.{same_name}
 use Rattle.leaves.specs.Sanitise.{sanitised}
 use Rattle.lookups.specs.Lookups.{named}
-use Rattle.lent_edits.proofs.ThinLaws.{Thinning, thin_start, thin_drop, thin_fit, thin_move, thin_end}
-use borrow.Author.Rules.{rules}
+use Rattle.lent_edits.proofs.ThinLaws.{thin_drop, thin_fit, thin_move, thin_end}
 use native.Mathlib.Omega.{arith}
 use mathlib.Core.Path.{sym, ap, ◌∙◌}
 use mathlib.Core.Bool.{true}
-use Prim.Native.Nat.{ℕ, ◌-◌, ◌<◌}
+use Prim.Native.Nat.{ℕ, ◌<◌}
 use Rattle.lent_edits.proofs.tables.compact.Goals as goal
 
 pub loop-i-preserved-then-matches_sanitised : goal.loop-i-preserved-then-matches_sanitised

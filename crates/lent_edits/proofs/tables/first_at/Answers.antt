@@ -3,16 +3,13 @@ use mathlib.Core.List.{List}
 use Rattle.leaves.specs.Name.{same_name}
 use Rattle.leaves.specs.Sanitise.{sanitised}
 use Rattle.lookups.specs.Lookups.{named}
-use Rattle.edits.specs.Fields.{first_at}
 use Rattle.edits.proofs.KeepLaws.{first_end}
 use Rattle.lent.specs.Table.{table_of}
 use Rattle.lent_edits.proofs.ThinLaws.{first_passed, first_found}
-use native.Mathlib.Nat.{zero-add}
 use borrow.Author.Rules.{rules}
-use mathlib.Core.Path.{◌≡◌, sym, ap, ◌∙◌}
+use mathlib.Core.Path.{sym, ap, ◌∙◌}
 use mathlib.Core.Bool.{true}
-use Prim.Native.Nat.{ℕ, ◌+◌, ◌-◌, ◌≤◌, ◌<◌}
-use lib.ListN.{take, drop}
+use Prim.Native.Nat.{ℕ, ◌<◌}
 use Rattle.lent_edits.proofs.tables.first_at.Goals as goal
 
 pub returns-then-matches_sanitised : goal.returns-then-matches_sanitised

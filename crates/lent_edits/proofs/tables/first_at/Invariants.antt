@@ -1,17 +1,11 @@
 -- `lent_edits::tables::first_at` meets its contract. Assumes nothing.
-use mathlib.Core.List.{List}
-use Rattle.leaves.specs.Name.{same_name}
 use Rattle.leaves.specs.Sanitise.{sanitised}
 use Rattle.lookups.specs.Lookups.{named}
 use Rattle.edits.specs.Fields.{first_at}
-use Rattle.edits.proofs.KeepLaws.{first_end}
 use Rattle.lent.specs.Table.{table_of}
-use Rattle.lent_edits.proofs.ThinLaws.{first_passed, first_found}
-use native.Mathlib.Nat.{zero-add}
-use borrow.Author.Rules.{rules}
-use mathlib.Core.Path.{◌≡◌, sym, ap, ◌∙◌}
+use mathlib.Core.Path.{◌≡◌}
 use mathlib.Core.Bool.{true}
-use Prim.Native.Nat.{ℕ, ◌+◌, ◌-◌, ◌≤◌, ◌<◌}
+use Prim.Native.Nat.{◌+◌, ◌-◌, ◌≤◌}
 use lib.ListN.{take, drop}
 use Rattle.lent_edits.proofs.tables.first_at.Given as goal
 
