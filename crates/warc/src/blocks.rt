@@ -1,4 +1,5 @@
 // A file's header block: shown, or written rebuilt; of two, whether a body may be appended to another.
+use crate::out::Stream;
 use crate::{forms, inputs, out, texts};
 
 // Answers of the reader.
@@ -93,6 +94,7 @@ fn is_over(n: u64) -> bool {
 
 // Opens a file and reads its header block in large pieces, until one ends it or nothing more comes.
 fn load(
+    rt: &HostRuntime,
     path: &[u8],
     first: u64,
     quirks: bool,
@@ -105,8 +107,8 @@ fn load(
     let mut taken = 0u64;
     let mut all = 0u64;
     let mut answer = MORE;
-    let fd = inputs::open(path);
-    let mut n = inputs::read_first(fd, path, &mut typed);
+    let mut input = inputs::open(rt, path);
+    let mut n = inputs::read_first(rt, &mut input, path, &mut typed);
     let status = awaits(first, inputs::piece(&typed, 0, n));
     begin(head, table, block, store, status, quirks);
     for _ in 0..inputs::TURNS {
@@ -125,9 +127,8 @@ fn load(
         if answer != MORE {
             break;
         }
-        n = inputs::read(fd, path, &mut typed);
+        n = inputs::read(rt, &mut input, path, &mut typed);
     }
-    inputs::close(fd, path);
     Ended {
         answer: finish(n, answer, head, table, block, store),
         taken: all,
@@ -141,6 +142,7 @@ fn wide(n: u32) -> u64 {
 
 // The first n fields, with their places.
 fn fields<'a>(
+    rt: &HostRuntime,
     said: &mut [u8; 65536],
     at: usize,
     n: u64,
@@ -153,7 +155,7 @@ fn fields<'a>(
         if i as u64 >= n {
             return at;
         }
-        at = field(said, at, i, table, block, store);
+        at = field(rt, said, at, i, table, block, store);
     }
     at
 }
@@ -180,6 +182,7 @@ pub fn entry(table: &[u32; 1024], i: usize, j: usize) -> u64 {
 }
 
 fn field<'a>(
+    rt: &HostRuntime,
     said: &mut [u8; 65536],
     at: usize,
     i: usize,
@@ -192,6 +195,7 @@ fn field<'a>(
     let c = entry(table, i, 2);
     let d = entry(table, i, 3);
     forms::say(
+        rt,
         said,
         at,
         forms::FIELD,
@@ -218,6 +222,7 @@ fn status_form(kind: u64) -> usize {
 }
 
 fn say_status<'a>(
+    rt: &HostRuntime,
     said: &mut [u8; 65536],
     at: usize,
     head: &[u64; 13],
@@ -228,6 +233,7 @@ fn say_status<'a>(
     let from = std::num::wrapping_add_u64(head[7], base(kind));
     let to = std::num::wrapping_add_u64(head[8], base(kind));
     forms::say(
+        rt,
         said,
         at,
         status_form(kind),
@@ -239,6 +245,7 @@ fn say_status<'a>(
 
 // What the three tests say.
 fn tests<'a>(
+    rt: &HostRuntime,
     said: &mut [u8; 65536],
     at: usize,
     clean: u32,
@@ -249,6 +256,7 @@ fn tests<'a>(
     let tidy = abi::telling::bisquecrow_tidy(octets, status, quirks, LIMIT);
     let grammatical = abi::telling::bisquecrow_grammatical(octets);
     forms::say(
+        rt,
         said,
         at,
         forms::TESTS,
@@ -259,16 +267,17 @@ fn tests<'a>(
 }
 
 // What ended a block.
-fn say_ending(said: &mut [u8; 65536], answer: u32, taken: u64) -> usize {
+fn say_ending(rt: &HostRuntime, said: &mut [u8; 65536], answer: u32, taken: u64) -> usize {
     match answer {
-        BLANK => forms::tell(said, forms::BLANK, taken, 0, 0, 0),
-        INPUT => forms::tell(said, forms::INPUT, taken, 0, 0, 0),
-        _ => forms::tell(said, forms::REFUSED, wide(answer), taken, 0, 0),
+        BLANK => forms::tell(rt, said, forms::BLANK, taken, 0, 0, 0),
+        INPUT => forms::tell(rt, said, forms::INPUT, taken, 0, 0, 0),
+        _ => forms::tell(rt, said, forms::REFUSED, wide(answer), taken, 0, 0),
     }
 }
 
 // A map in words: its status and its fields.
 pub fn map<'a>(
+    rt: &HostRuntime,
     said: &mut [u8; 65536],
     at: usize,
     head: &[u64; 13],
@@ -276,8 +285,8 @@ pub fn map<'a>(
     block: &'a [u8; 32768],
     store: &'a [u8; 32768],
 ) -> usize {
-    let next = say_status(said, at, head, block, store);
-    fields(said, next, head[5], table, block, store)
+    let next = say_status(rt, said, at, head, block, store);
+    fields(rt, said, next, head[5], table, block, store)
 }
 
 // The status of a block: good is one that its blank line ended.
@@ -291,6 +300,7 @@ fn closed(answer: u32) -> u64 {
 
 // A block that was read, in words; of one that was refused nothing stands.
 fn show<'a>(
+    rt: &HostRuntime,
     answer: u32,
     taken: u64,
     status: bool,
@@ -301,16 +311,17 @@ fn show<'a>(
     store: &'a [u8; 32768],
 ) -> u64 {
     let mut said = [0u8; 65536];
-    let a = say_ending(&mut said, answer, taken);
+    let a = say_ending(rt, &mut said, answer, taken);
     if answer < MORE {
         return inputs::worse(
             inputs::BAD,
-            inputs::written(out::flush(libc::STDOUT_FILENO, &said, a)),
+            inputs::written(out::flush(rt, Stream::Output, &said, a)),
         );
     }
-    let b = map(&mut said, a, head, table, block, store);
+    let b = map(rt, &mut said, a, head, table, block, store);
     let clean = abi::telling::bisquecrow_clean(head, table, block, store);
     let c = tests(
+        rt,
         &mut said,
         b,
         clean,
@@ -320,7 +331,7 @@ fn show<'a>(
     );
     inputs::worse(
         closed(answer),
-        inputs::written(out::flush(libc::STDOUT_FILENO, &said, c)),
+        inputs::written(out::flush(rt, Stream::Output, &said, c)),
     )
 }
 
@@ -399,43 +410,44 @@ fn idle_lines(s: &[u8], status: bool, quirks: bool) -> u64 {
 }
 
 // Says how many lines of a block stand for nothing.
-fn say_idle(path: &[u8], n: u64) {
+fn say_idle(rt: &HostRuntime, path: &[u8], n: u64) {
     if n > 0 {
-        inputs::remark(forms::IDLE, path, n);
+        inputs::remark(rt, forms::IDLE, path, n);
     }
 }
 
 // What a person may want to know of a block that was read.
-fn remark(path: &[u8], ended: Ended, quirks: bool, block: &[u8; 32768]) {
+fn remark(rt: &HostRuntime, path: &[u8], ended: Ended, quirks: bool, block: &[u8; 32768]) {
     let form = help(quirks, block);
-    inputs::remark(form, path, 0);
+    inputs::remark(rt, form, path, 0);
     if form == forms::NOTHING {
         if ended.answer == BLANK {
             let octets = texts::front(block, ended.taken as usize);
-            say_idle(path, idle_lines(octets, ended.status, quirks));
+            say_idle(rt, path, idle_lines(octets, ended.status, quirks));
         }
     }
 }
 
 // Shows a file's header block.
-pub fn header(path: &[u8], several: bool, first: u64, quirks: bool) -> u64 {
+pub fn header(rt: &HostRuntime, path: &[u8], several: bool, first: u64, quirks: bool) -> u64 {
     let mut head = [0u64; 13];
     let mut table = [0u32; 1024];
     let mut block = [0u8; 32768];
     let mut store = [0u8; 32768];
     let ended = load(
-        path, first, quirks, &mut head, &mut table, &mut block, &mut store,
+        rt, path, first, quirks, &mut head, &mut table, &mut block, &mut store,
     );
     let answer = ended.answer;
     if answer == 0 {
         return inputs::UNREAD;
     }
-    remark(path, ended, quirks, &block);
-    let first = inputs::headline(path, several);
+    remark(rt, path, ended, quirks, &block);
+    let first = inputs::headline(rt, path, several);
     if first != inputs::GOOD {
         return first;
     }
     show(
+        rt,
         answer,
         ended.taken,
         ended.status,
@@ -448,15 +460,15 @@ pub fn header(path: &[u8], several: bool, first: u64, quirks: bool) -> u64 {
 }
 
 // Whether a block was read; what is amiss is said.
-fn is_read(path: &[u8], answer: u32) -> bool {
+fn is_read(rt: &HostRuntime, path: &[u8], answer: u32) -> bool {
     match answer {
         BLANK => true,
         INPUT => {
-            inputs::remark(forms::CUT_OFF, path, 0);
+            inputs::remark(rt, forms::CUT_OFF, path, 0);
             true
         }
         _ => {
-            inputs::remark(forms::REFUSES, path, wide(answer));
+            inputs::remark(rt, forms::REFUSES, path, wide(answer));
             false
         }
     }
@@ -464,6 +476,7 @@ fn is_read(path: &[u8], answer: u32) -> bool {
 
 // Whether a map is clean; if not, that is said.
 fn is_clean<'a>(
+    rt: &HostRuntime,
     path: &[u8],
     head: &[u64; 13],
     table: &[u32; 1024],
@@ -473,12 +486,13 @@ fn is_clean<'a>(
     if abi::telling::bisquecrow_clean(head, table, block, store) == YES {
         return true;
     }
-    inputs::remark(forms::UNCLEAN, path, 0);
+    inputs::remark(rt, forms::UNCLEAN, path, 0);
     false
 }
 
 // Writes a map's rebuilt block.
 fn rebuild<'a>(
+    rt: &HostRuntime,
     path: &[u8],
     answer: u32,
     head: &[u64; 13],
@@ -488,12 +502,12 @@ fn rebuild<'a>(
 ) -> u64 {
     let mut sheet = [0u8; 65536];
     let mut count = 0u64;
-    if is_read(path, answer) {
-        if is_clean(path, head, table, block, store) {
+    if is_read(rt, path, answer) {
+        if is_clean(rt, path, head, table, block, store) {
             abi::writing::bisquecrow_rebuild(head, table, block, store, &mut sheet, &mut count);
             return inputs::worse(
                 closed(answer),
-                inputs::written(out::flush(libc::STDOUT_FILENO, &sheet, count as usize)),
+                inputs::written(out::flush(rt, Stream::Output, &sheet, count as usize)),
             );
         }
     }
@@ -501,20 +515,20 @@ fn rebuild<'a>(
 }
 
 // Writes a file's header block rebuilt.
-pub fn tidy(path: &[u8], first: u64, quirks: bool) -> u64 {
+pub fn tidy(rt: &HostRuntime, path: &[u8], first: u64, quirks: bool) -> u64 {
     let mut head = [0u64; 13];
     let mut table = [0u32; 1024];
     let mut block = [0u8; 32768];
     let mut store = [0u8; 32768];
     let ended = load(
-        path, first, quirks, &mut head, &mut table, &mut block, &mut store,
+        rt, path, first, quirks, &mut head, &mut table, &mut block, &mut store,
     );
     let answer = ended.answer;
     if answer == 0 {
         return inputs::UNREAD;
     }
-    remark(path, ended, quirks, &block);
-    rebuild(path, answer, &head, &table, &block, &store)
+    remark(rt, path, ended, quirks, &block);
+    rebuild(rt, path, answer, &head, &table, &block, &store)
 }
 
 // The form for a resume check's answer.
@@ -530,10 +544,10 @@ fn verdict(answer: u32) -> usize {
 }
 
 // Says whether the body may be appended.
-fn say_verdict(answer: u32) -> u64 {
+fn say_verdict(rt: &HostRuntime, answer: u32) -> u64 {
     let mut said = [0u8; 65536];
-    let at = forms::tell(&mut said, verdict(answer), 0, 0, 0, 0);
-    let written = inputs::written(out::flush(libc::STDOUT_FILENO, &said, at));
+    let at = forms::tell(rt, &mut said, verdict(answer), 0, 0, 0, 0);
+    let written = inputs::written(out::flush(rt, Stream::Output, &said, at));
     match answer {
         80 => written,
         _ => inputs::worse(inputs::BAD, written),
@@ -550,11 +564,11 @@ fn amiss_form(answer: u32) -> usize {
 }
 
 // Says what is amiss with a block that is to be resumed.
-fn say_amiss(path: &[u8], answer: u32, block: &[u8; 32768]) {
+fn say_amiss(rt: &HostRuntime, path: &[u8], answer: u32, block: &[u8; 32768]) {
     let form = amiss_form(answer);
     if form != forms::NOTHING {
-        inputs::remark(help(false, block), path, 0);
-        inputs::remark(form, path, wide(answer));
+        inputs::remark(rt, help(false, block), path, 0);
+        inputs::remark(rt, form, path, wide(answer));
     }
 }
 
@@ -588,15 +602,16 @@ fn less(a: u32, b: u32) -> u32 {
 }
 
 // The verdict on two blocks of which one was not read to its blank line.
-fn amiss(answer: u32) -> u64 {
+fn amiss(rt: &HostRuntime, answer: u32) -> u64 {
     match answer {
         0 => inputs::UNREAD,
-        _ => say_verdict(answer),
+        _ => say_verdict(rt, answer),
     }
 }
 
 // The second block is read whatever the first is, so that both are told of.
 fn compare<'a>(
+    rt: &HostRuntime,
     answer: u32,
     head: &[u64; 13],
     table: &[u32; 1024],
@@ -609,6 +624,7 @@ fn compare<'a>(
     let mut block2 = [0u8; 32768];
     let mut store2 = [0u8; 32768];
     let ended = load(
+        rt,
         second,
         IS_STATUS,
         false,
@@ -617,23 +633,26 @@ fn compare<'a>(
         &mut block2,
         &mut store2,
     );
-    say_amiss(second, ended.answer, &block2);
+    say_amiss(rt, second, ended.answer, &block2);
     let read = less(answer, ended.answer);
     if read == BLANK {
-        return say_verdict(judge(head, table, block, store, &head2, &table2, &block2, &store2));
+        return say_verdict(
+            rt,
+            judge(head, table, block, store, &head2, &table2, &block2, &store2),
+        );
     }
-    amiss(read)
+    amiss(rt, read)
 }
 
 // Says whether the body of the second of two HTTP answers may be appended to that of the first.
-pub fn resume(first: &[u8], second: &[u8]) -> u64 {
+pub fn resume(rt: &HostRuntime, first: &[u8], second: &[u8]) -> u64 {
     let mut head = [0u64; 13];
     let mut table = [0u32; 1024];
     let mut block = [0u8; 32768];
     let mut store = [0u8; 32768];
     let ended = load(
-        first, IS_STATUS, false, &mut head, &mut table, &mut block, &mut store,
+        rt, first, IS_STATUS, false, &mut head, &mut table, &mut block, &mut store,
     );
-    say_amiss(first, ended.answer, &block);
-    compare(ended.answer, &head, &table, &block, &store, second)
+    say_amiss(rt, first, ended.answer, &block);
+    compare(rt, ended.answer, &head, &table, &block, &store, second)
 }

@@ -144,7 +144,7 @@ fn row(sign: u8, n: u64) -> u64 {
 }
 
 // A name. Those that each record needs come first.
-fn name(said: &mut [u8; 65536], at: usize, row: u64) -> usize {
+fn name(rt: &HostRuntime, said: &mut [u8; 65536], at: usize, row: u64) -> usize {
     let words = texts::line(
         b"-
 warcinfo
@@ -180,7 +180,7 @@ an octet at position 4611686018427387904 or later would be taken
 ",
         row as usize,
     );
-    out::words(said, at, words)
+    out::words(rt, said, at, words)
 }
 
 fn offset(n: u64) -> u64 {
@@ -213,25 +213,26 @@ fn is_dash(s: &[u8]) -> bool {
 }
 
 // A column; one that is a dash is not none.
-fn column(said: &mut [u8; 65536], at: usize, s: &[u8]) -> usize {
+fn column(rt: &HostRuntime, said: &mut [u8; 65536], at: usize, s: &[u8]) -> usize {
     if s.len() == 0 {
-        return out::octet(said, at, b'-');
+        return out::octet(rt, said, at, b'-');
     }
     if is_dash(s) {
-        return out::words(said, at, b"%2D");
+        return out::words(rt, said, at, b"%2D");
     }
-    out::octets(said, at, s, out::COLUMN)
+    out::octets(rt, said, at, s, out::COLUMN)
 }
 
 // Octets as a string of JSON.
-pub fn string(said: &mut [u8; 65536], at: usize, s: &[u8]) -> usize {
-    let a = out::octet(said, at, b'"');
-    let b = out::octets(said, a, s, out::STRING);
-    out::octet(said, b, b'"')
+pub fn string(rt: &HostRuntime, said: &mut [u8; 65536], at: usize, s: &[u8]) -> usize {
+    let a = out::octet(rt, said, at, b'"');
+    let b = out::octets(rt, said, a, s, out::STRING);
+    out::octet(rt, said, b, b'"')
 }
 
 // No value lies at 0, where a header's first line begins.
 fn string_at<'a>(
+    rt: &HostRuntime,
     said: &mut [u8; 65536],
     at: usize,
     from: u64,
@@ -240,13 +241,14 @@ fn string_at<'a>(
     store: &'a [u8],
 ) -> usize {
     match to {
-        0 => out::words(said, at, b"null"),
-        _ => string(said, at, part(block, store, from, to)),
+        0 => out::words(rt, said, at, b"null"),
+        _ => string(rt, said, at, part(block, store, from, to)),
     }
 }
 
 // One sign, with the numbers that it may stand for.
 fn sign<'a>(
+    rt: &HostRuntime,
     said: &mut [u8; 65536],
     at: usize,
     x: u8,
@@ -256,12 +258,12 @@ fn sign<'a>(
     store: &'a [u8],
 ) -> usize {
     match x {
-        b'#' | b'<' => out::decimal(said, at, shown(x, n)),
-        b'!' | b'^' | b'~' | b'=' | b'@' | b'%' => name(said, at, row(x, n)),
-        b'$' => out::octets(said, at, part(block, store, n, to), out::TEXT),
-        b'?' => column(said, at, part(block, store, n, to)),
-        b'*' => string_at(said, at, n, to, block, store),
-        _ => out::octet(said, at, b'\n'),
+        b'#' | b'<' => out::decimal(rt, said, at, shown(x, n)),
+        b'!' | b'^' | b'~' | b'=' | b'@' | b'%' => name(rt, said, at, row(x, n)),
+        b'$' => out::octets(rt, said, at, part(block, store, n, to), out::TEXT),
+        b'?' => column(rt, said, at, part(block, store, n, to)),
+        b'*' => string_at(rt, said, at, n, to, block, store),
+        _ => out::octet(rt, said, at, b'\n'),
     }
 }
 
@@ -300,6 +302,7 @@ fn number(numbers: &[u64], k: usize) -> u64 {
 
 // A form's words, with its numbers and the octets of its places.
 pub fn fill<'a>(
+    rt: &HostRuntime,
     said: &mut [u8; 65536],
     at: usize,
     words: &[u8],
@@ -314,10 +317,10 @@ pub fn fill<'a>(
         if is_sign(x) {
             let n = number(numbers, index(k, x));
             let to = number(numbers, std::num::wrapping_add_usize(k, 1));
-            at = sign(said, at, x, n, to, block, store);
+            at = sign(rt, said, at, x, n, to, block, store);
             k = std::num::wrapping_add_usize(k, width(x));
         } else {
-            at = out::octet(said, at, x);
+            at = out::octet(rt, said, at, x);
         }
     }
     at
@@ -325,6 +328,7 @@ pub fn fill<'a>(
 
 // A form, with its numbers and the octets of its places, and the end of its line.
 pub fn say<'a>(
+    rt: &HostRuntime,
     said: &mut [u8; 65536],
     at: usize,
     form: usize,
@@ -370,11 +374,19 @@ $: what stands behind the last good record is none, which begins with WARC/1.0 o
 ",
         form,
     );
-    let behind = fill(said, at, words, numbers, block, store);
-    out::octet(said, behind, b'\n')
+    let behind = fill(rt, said, at, words, numbers, block, store);
+    out::octet(rt, said, behind, b'\n')
 }
 
 // A form at the beginning of the buffer, of numbers alone.
-pub fn tell(said: &mut [u8; 65536], form: usize, a: u64, b: u64, c: u64, d: u64) -> usize {
-    say(said, 0, form, &[a, b, c, d], b"", b"")
+pub fn tell(
+    rt: &HostRuntime,
+    said: &mut [u8; 65536],
+    form: usize,
+    a: u64,
+    b: u64,
+    c: u64,
+    d: u64,
+) -> usize {
+    say(rt, said, 0, form, &[a, b, c, d], b"", b"")
 }

@@ -1,5 +1,6 @@
 // What is said of the program and of each command, to who asks for it and to who used it wrongly.
 use crate::inputs;
+use crate::out::Stream;
 
 pub const WALK: usize = 0;
 
@@ -16,10 +17,11 @@ pub const RECORD: usize = 5;
 pub const BODY: usize = 6;
 
 // The help of a command, or of the program.
-pub fn help(fd: i32, command: usize) -> u64 {
+pub fn help(rt: &HostRuntime, to: Stream, command: usize) -> u64 {
     match command {
         WALK => inputs::text(
-            fd,
+            rt,
+            to,
             b"warc walk [--json] FILE...
 
 Lists the records of each file: start, body offset, body length, type, date, target URI; - where there is none. Octets outside 33 to 126,
@@ -30,14 +32,16 @@ and %, stand as %XX. How the file ends is said on standard error.
 ",
         ),
         CHECK => inputs::text(
-            fd,
+            rt,
+            to,
             b"warc check FILE...
 
 Says of each file how many records are good and, where it stops: the position, the number, what that means and what was good before it.
 ",
         ),
         HEADER | TIDY => inputs::text(
-            fd,
+            rt,
+            to,
             b"warc header [--status | --fields] [--quirks] FILE...
 warc tidy [--status | --fields] [--quirks] FILE...
 
@@ -53,7 +57,8 @@ The words status, fields and quirks do the same: a file of such a name is ./stat
 ",
         ),
         RESUME => inputs::text(
-            fd,
+            rt,
+            to,
             b"warc resume FIRST SECOND
 
 Says whether the body of the second HTTP answer may be appended to that of the first: both have the same ETag, one each, the second's code
@@ -61,7 +66,8 @@ is 206, and each header is closed by its blank line.
 ",
         ),
         RECORD | BODY => inputs::text(
-            fd,
+            rt,
+            to,
             b"warc record FILE START
 warc body FILE START
 
@@ -70,7 +76,8 @@ those lie, from START. body writes its body, and says on standard error where it
 ",
         ),
         _ => inputs::text(
-            fd,
+            rt,
+            to,
             b"warc walk FILE...            lists the records: start, body offset, body length, type, date, target URI
 warc check FILE...           says where and why a file stops, and how many records were good
 warc record FILE START       shows the record at a start: its numbers and its header

@@ -9,6 +9,10 @@ mod out;
 mod texts;
 mod walks;
 
+use out::Stream;
+use std::env::{Env, FillError};
+use std::io::Error;
+
 // Where the exit status is written, since a program has none of its own.
 const STATUS_FILENO: i32 = 3;
 
@@ -33,10 +37,36 @@ const STANDARD: usize = 19;
 
 const STRANGE: usize = 20;
 
+// Puts argument i into a room, and answers its length; 0 where it is longer, of which the first octets are there then.
+fn argument(rt: &HostRuntime, i: usize, room: &mut [u8]) -> usize {
+    match rt.arg(i, room) {
+        Ok(n) => n,
+        Err(_) => 0,
+    }
+}
+
+fn is_argument(rt: &HostRuntime, i: usize) -> bool {
+    let mut room = [0u8; 1];
+    match rt.arg(i, &mut room) {
+        Err(FillError::NotPresent) => false,
+        _ => true,
+    }
+}
+
+// How many arguments there are, with the name of the program.
+fn argument_count(rt: &HostRuntime) -> usize {
+    for i in 0..usize::MAX {
+        if !is_argument(rt, i) {
+            return i;
+        }
+    }
+    usize::MAX
+}
+
 // The number of the word that argument i is, by the lines below; FILE where it is none.
-fn word(i: usize) -> usize {
+fn word(rt: &HostRuntime, i: usize) -> usize {
     let mut room = [0u8; 16];
-    let n = os::arg(i, &mut room);
+    let n = argument(rt, i, &mut room);
     texts::number(
         b"walk
 check
@@ -62,9 +92,9 @@ quirks
 }
 
 // What an argument that is no word is.
-fn name(i: usize) -> usize {
+fn name(rt: &HostRuntime, i: usize) -> usize {
     let mut room = [0u8; 2];
-    let n = os::arg(i, &mut room);
+    let n = argument(rt, i, &mut room);
     if room[0] == b'-' {
         if n == 1 {
             return STANDARD;
@@ -83,8 +113,8 @@ fn bare(command: usize, option: usize) -> usize {
 }
 
 // What argument i is to a command.
-fn kind(command: usize, i: usize) -> usize {
-    match word(i) {
+fn kind(rt: &HostRuntime, command: usize, i: usize) -> usize {
+    match word(rt, i) {
         HELP | 17 => HELP,
         JSON => JSON,
         STATUS => STATUS,
@@ -93,15 +123,15 @@ fn kind(command: usize, i: usize) -> usize {
         14 => bare(command, STATUS),
         15 => bare(command, FIELDS),
         16 => bare(command, QUIRKS),
-        _ => name(i),
+        _ => name(rt, i),
     }
 }
 
 // How many of the arguments behind a command are of a kind.
-fn tally(command: usize, count: usize, wanted: usize) -> u64 {
+fn tally(rt: &HostRuntime, command: usize, count: usize, wanted: usize) -> u64 {
     let mut n = 0u64;
     for i in 2..count {
-        if kind(command, i) == wanted {
+        if kind(rt, command, i) == wanted {
             n = std::num::wrapping_add_u64(n, 1);
         }
     }
@@ -120,15 +150,15 @@ struct Asked {
     quirks: u64,
 }
 
-fn asked_of(command: usize, count: usize) -> Asked {
+fn asked_of(rt: &HostRuntime, command: usize, count: usize) -> Asked {
     Asked {
-        files: tally(command, count, FILE),
-        standard: tally(command, count, STANDARD),
-        strange: tally(command, count, STRANGE),
-        json: tally(command, count, JSON),
-        status: tally(command, count, STATUS),
-        fields: tally(command, count, FIELDS),
-        quirks: tally(command, count, QUIRKS),
+        files: tally(rt, command, count, FILE),
+        standard: tally(rt, command, count, STANDARD),
+        strange: tally(rt, command, count, STRANGE),
+        json: tally(rt, command, count, JSON),
+        status: tally(rt, command, count, STATUS),
+        fields: tally(rt, command, count, FIELDS),
+        quirks: tally(rt, command, count, QUIRKS),
     }
 }
 
@@ -188,7 +218,7 @@ fn least(a: u64, b: u64) -> u64 {
     b
 }
 
-fn misused(command: usize, fault: usize) -> u64 {
+fn misused(rt: &HostRuntime, command: usize, fault: usize) -> u64 {
     let said = texts::line(
         b"warc: there is no such command
 warc: there is no such option
@@ -200,9 +230,9 @@ warc: START is no number of up to 18 digits
 ",
         fault,
     );
-    inputs::text(libc::STDERR_FILENO, said);
-    inputs::text(libc::STDERR_FILENO, b"\n\n");
-    helps::help(libc::STDERR_FILENO, command);
+    inputs::text(rt, Stream::Error, said);
+    inputs::text(rt, Stream::Error, b"\n\n");
+    helps::help(rt, Stream::Error, command);
     inputs::UNREAD
 }
 
@@ -231,137 +261,145 @@ fn first_line(a: Asked) -> u64 {
 }
 
 // A command on one of its files.
-fn act(command: usize, path: &[u8], a: Asked, several: bool) -> u64 {
+fn act(rt: &HostRuntime, command: usize, path: &[u8], a: Asked, several: bool) -> u64 {
     let first = first_line(a);
     let quirks = a.quirks > 0;
     match command {
-        helps::HEADER => blocks::header(path, several, first, quirks),
-        helps::TIDY => blocks::tidy(path, first, quirks),
-        _ => walks::walk(path, several, manner(command, a.json), 0),
+        helps::HEADER => blocks::header(rt, path, several, first, quirks),
+        helps::TIDY => blocks::tidy(rt, path, first, quirks),
+        _ => walks::walk(rt, path, several, manner(command, a.json), 0),
     }
 }
 
 // A name that is too long to be one.
-fn unnamed(path: &[u8]) -> u64 {
-    inputs::fail(texts::front(path, 64));
+fn unnamed(rt: &HostRuntime, path: &[u8]) -> u64 {
+    inputs::fail(
+        rt,
+        texts::front(path, 64),
+        Error::from_raw_os_error(inputs::TOO_LONG),
+    );
     inputs::UNREAD
 }
 
 // Argument i, which is a file or an option.
-fn on_argument(command: usize, i: usize, a: Asked, several: bool) -> u64 {
+fn on_argument(rt: &HostRuntime, command: usize, i: usize, a: Asked, several: bool) -> u64 {
     let mut path = [0u8; 4096];
-    match kind(command, i) {
-        FILE | STANDARD => {
-            let n = os::arg(i, &mut path);
-            if os::errno() != 0 {
-                return unnamed(&path);
-            }
-            act(command, texts::front(&path, n), a, several)
-        }
+    match kind(rt, command, i) {
+        FILE | STANDARD => match rt.arg(i, &mut path) {
+            Ok(n) => act(rt, command, texts::front(&path, n), a, several),
+            Err(_) => unnamed(rt, &path),
+        },
         _ => inputs::GOOD,
     }
 }
 
 // A command on each of its files, until something cannot be written.
-fn on_each(command: usize, count: usize, a: Asked) -> u64 {
+fn on_each(rt: &HostRuntime, command: usize, count: usize, a: Asked) -> u64 {
     let several = sum(a.files, a.standard) > 1;
     let mut status = inputs::GOOD;
     for i in 2..count {
         if status < inputs::UNWRITTEN {
-            status = inputs::worse(status, on_argument(command, i, a, several));
+            status = inputs::worse(status, on_argument(rt, command, i, a, several));
         }
     }
     status
 }
 
 // A command on the record at a start.
-fn at_start(command: usize, path: &[u8], start: &[u8]) -> u64 {
+fn at_start(rt: &HostRuntime, command: usize, path: &[u8], start: &[u8]) -> u64 {
     let from = texts::decimal(start);
     if from == texts::NONE {
-        return misused(command, 6);
+        return misused(rt, command, 6);
     }
     match command {
-        helps::RECORD => walks::walk(path, false, walks::SHOW, from),
-        _ => walks::walk(path, false, walks::WRITE, from),
+        helps::RECORD => walks::walk(rt, path, false, walks::SHOW, from),
+        _ => walks::walk(rt, path, false, walks::WRITE, from),
+    }
+}
+
+// A command on its first argument and on the second.
+fn on_first(rt: &HostRuntime, command: usize, first: &[u8]) -> u64 {
+    let mut second = [0u8; 4096];
+    match rt.arg(3, &mut second) {
+        Ok(n) => on_both(rt, command, first, texts::front(&second, n)),
+        Err(_) => unnamed(rt, &second),
+    }
+}
+
+fn on_both(rt: &HostRuntime, command: usize, first: &[u8], second: &[u8]) -> u64 {
+    match command {
+        helps::RESUME => blocks::resume(rt, first, second),
+        _ => at_start(rt, command, first, second),
     }
 }
 
 // A command on two arguments.
-fn on_two(command: usize) -> u64 {
+fn on_two(rt: &HostRuntime, command: usize) -> u64 {
     let mut first = [0u8; 4096];
-    let mut second = [0u8; 4096];
-    let n = os::arg(2, &mut first);
-    if os::errno() != 0 {
-        return unnamed(&first);
-    }
-    let k = os::arg(3, &mut second);
-    if os::errno() != 0 {
-        return unnamed(&second);
-    }
-    match command {
-        helps::RESUME => blocks::resume(texts::front(&first, n), texts::front(&second, k)),
-        _ => at_start(command, texts::front(&first, n), texts::front(&second, k)),
+    match rt.arg(2, &mut first) {
+        Ok(n) => on_first(rt, command, texts::front(&first, n)),
+        Err(_) => unnamed(rt, &first),
     }
 }
 
-fn right(command: usize, count: usize, a: Asked) -> u64 {
+fn right(rt: &HostRuntime, command: usize, count: usize, a: Asked) -> u64 {
     match command {
-        helps::RESUME | helps::RECORD | helps::BODY => on_two(command),
-        _ => on_each(command, count, a),
+        helps::RESUME | helps::RECORD | helps::BODY => on_two(rt, command),
+        _ => on_each(rt, command, count, a),
     }
 }
 
-fn with_arguments(command: usize, count: usize) -> u64 {
-    let a = asked_of(command, count);
+fn with_arguments(rt: &HostRuntime, command: usize, count: usize) -> u64 {
+    let a = asked_of(rt, command, count);
     let fault = fault(command, a);
     if fault == RIGHT {
-        return right(command, count, a);
+        return right(rt, command, count, a);
     }
-    misused(command, fault)
+    misused(rt, command, fault)
 }
 
 // Without arguments: the help, and a walk of the sample.
-fn sample() -> u64 {
-    helps::help(libc::STDOUT_FILENO, PROGRAM);
-    inputs::text(libc::STDOUT_FILENO, b"\nwarc walk sample.warc:\n");
-    walks::walk(b"sample.warc", false, walks::LIST, 0)
+fn sample(rt: &HostRuntime) -> u64 {
+    helps::help(rt, Stream::Output, PROGRAM);
+    inputs::text(rt, Stream::Output, b"\nwarc walk sample.warc:\n");
+    walks::walk(rt, b"sample.warc", false, walks::LIST, 0)
 }
 
-fn version() -> u64 {
-    inputs::text(libc::STDOUT_FILENO, b"warc (bisquecrow) 1.0.0\n")
+fn version(rt: &HostRuntime) -> u64 {
+    inputs::text(rt, Stream::Output, b"warc (bisquecrow) 1.0.0\n")
 }
 
 // The help of a command, or of the program where none is named.
-fn helped(command: usize, count: usize) -> u64 {
+fn helped(rt: &HostRuntime, command: usize, count: usize) -> u64 {
     if count > 2 {
         if command >= PROGRAM {
-            return misused(command, 0);
+            return misused(rt, command, 0);
         }
     }
-    helps::help(libc::STDOUT_FILENO, command)
+    helps::help(rt, Stream::Output, command)
 }
 
-fn command(count: usize) -> u64 {
-    let command = word(1);
-    if tally(command, count, HELP) > 0 {
-        return helped(command, count);
+fn command(rt: &HostRuntime, count: usize) -> u64 {
+    let command = word(rt, 1);
+    if tally(rt, command, count, HELP) > 0 {
+        return helped(rt, command, count);
     }
     match command {
-        PROGRAM | HELP | 17 => helped(word(2), count),
+        PROGRAM | HELP | 17 => helped(rt, word(rt, 2), count),
         VERSION => match count {
-            2 => version(),
-            _ => misused(command, 0),
+            2 => version(rt),
+            _ => misused(rt, command, 0),
         },
-        _ => with_arguments(command, count),
+        _ => with_arguments(rt, command, count),
     }
 }
 
-fn run() -> u64 {
-    let count = os::arg_count();
+fn run(rt: &HostRuntime) -> u64 {
+    let count = argument_count(rt);
     if count <= 1 {
-        return sample();
+        return sample(rt);
     }
-    command(count)
+    command(rt, count)
 }
 
 fn digit(status: u64) -> u8 {
@@ -372,8 +410,8 @@ fn digit(status: u64) -> u8 {
     }
 }
 
-fn main() {
-    let status = run();
+fn main(rt: HostRuntime) {
+    let status = run(&rt);
     let line = [digit(status), b'\n'];
-    libc::write(STATUS_FILENO, &line);
+    io::write_all(STATUS_FILENO, &line);
 }

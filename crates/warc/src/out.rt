@@ -1,5 +1,13 @@
 // What is printed, by way of a lent buffer. Each call answers where in the buffer the next octet goes, or FAILED.
 use crate::texts;
+use std::io::{Error, Write};
+
+// Where something is written.
+#[derive(Clone, Copy)]
+pub enum Stream {
+    Output,
+    Error,
+}
 
 pub const ROOM: usize = 65536;
 
@@ -11,19 +19,56 @@ pub fn front<'a>(said: &'a [u8; 65536], at: usize) -> &'a [u8] {
     texts::front(said, at)
 }
 
-// Writes octets at once; where that fails, why is said.
-pub fn send(fd: i32, s: &[u8]) -> bool {
-    if io::write_all(fd, s) {
-        return true;
+fn put(rt: &HostRuntime, to: Stream, s: &[u8]) -> Result<(), Error> {
+    match to {
+        Stream::Output => rt.stdout().write_all(s),
+        Stream::Error => rt.stderr().write_all(s),
     }
-    os::fail(b"standard output");
-    false
+}
+
+// What an error's text says before the number that the system gives it.
+fn reason<'a>(said: &'a [u8]) -> &'a [u8] {
+    for i in 0..said.len() {
+        if texts::begins(texts::part(said, i, said.len()), b" (os error ") {
+            return texts::front(said, i);
+        }
+    }
+    said
+}
+
+// How many octets of a room an error's text takes.
+fn error_text(e: Error, room: &mut [u8; 512]) -> usize {
+    let mut rest = room.as_mut_slice();
+    match write!(rest, "{e}") {
+        Ok(()) => std::num::wrapping_sub_usize(512, rest.len()),
+        Err(_) => 0,
+    }
+}
+
+// Writes a line on standard error: a name, a colon and why a call failed.
+pub fn fail(rt: &HostRuntime, name: &[u8], e: Error) {
+    let mut room = [0u8; 512];
+    let n = error_text(e, &mut room);
+    for part in [name, b": ", reason(texts::front(&room, n)), b"\n"] {
+        let _ = put(rt, Stream::Error, part);
+    }
+}
+
+// Writes octets at once; where that fails, why is said.
+pub fn send(rt: &HostRuntime, to: Stream, s: &[u8]) -> bool {
+    match put(rt, to, s) {
+        Ok(()) => true,
+        Err(e) => {
+            fail(rt, b"standard output", e);
+            false
+        }
+    }
 }
 
 // Writes what stands before a place.
-pub fn flush(fd: i32, said: &[u8; 65536], at: usize) -> usize {
+pub fn flush(rt: &HostRuntime, to: Stream, said: &[u8; 65536], at: usize) -> usize {
     if at <= ROOM {
-        if send(fd, front(said, at)) {
+        if send(rt, to, front(said, at)) {
             return 0;
         }
         return FAILED;
@@ -31,12 +76,12 @@ pub fn flush(fd: i32, said: &[u8; 65536], at: usize) -> usize {
     at
 }
 
-pub fn octet(said: &mut [u8; 65536], at: usize, x: u8) -> usize {
+pub fn octet(rt: &HostRuntime, said: &mut [u8; 65536], at: usize, x: u8) -> usize {
     if at < ROOM {
         said[at] = x;
         return at + 1;
     }
-    let next = flush(libc::STDOUT_FILENO, said, at);
+    let next = flush(rt, Stream::Output, said, at);
     if next == 0 {
         said[0] = x;
         return 1;
@@ -55,9 +100,9 @@ fn glyph(d: u8) -> u8 {
 }
 
 // An octet as two hexadecimal digits.
-fn hex(said: &mut [u8; 65536], at: usize, x: u8) -> usize {
-    let next = octet(said, at, glyph(x / 16));
-    octet(said, next, glyph(x % 16))
+fn hex(rt: &HostRuntime, said: &mut [u8; 65536], at: usize, x: u8) -> usize {
+    let next = octet(rt, said, at, glyph(x / 16));
+    octet(rt, said, next, glyph(x % 16))
 }
 
 // Whether octets fit behind a place, where they are put.
@@ -71,21 +116,21 @@ fn puts(said: &mut [u8], at: usize, s: &[u8]) -> bool {
     false
 }
 
-fn words_by_octets(said: &mut [u8; 65536], at: usize, s: &[u8]) -> usize {
+fn words_by_octets(rt: &HostRuntime, said: &mut [u8; 65536], at: usize, s: &[u8]) -> usize {
     let mut at = at;
     for i in 0..s.len() {
         let x = s[i];
-        at = octet(said, at, x);
+        at = octet(rt, said, at, x);
     }
     at
 }
 
 // Words as they are.
-pub fn words(said: &mut [u8; 65536], at: usize, s: &[u8]) -> usize {
+pub fn words(rt: &HostRuntime, said: &mut [u8; 65536], at: usize, s: &[u8]) -> usize {
     if puts(said, at, s) {
         return std::num::wrapping_add_usize(at, s.len());
     }
-    words_by_octets(said, at, s)
+    words_by_octets(rt, said, at, s)
 }
 
 // How octets are shown.
@@ -131,23 +176,23 @@ fn is_plain(x: u8, least: u8, odd: u8, odder: u8) -> bool {
 }
 
 // An octet that does not stand for itself.
-fn escaped(said: &mut [u8; 65536], at: usize, x: u8, manner: u8) -> usize {
+fn escaped(rt: &HostRuntime, said: &mut [u8; 65536], at: usize, x: u8, manner: u8) -> usize {
     match manner {
         STRING => {
-            let next = words(said, at, b"\\u00");
-            hex(said, next, x)
+            let next = words(rt, said, at, b"\\u00");
+            hex(rt, said, next, x)
         }
         _ => {
-            let next = octet(said, at, b'%');
-            hex(said, next, x)
+            let next = octet(rt, said, at, b'%');
+            hex(rt, said, next, x)
         }
     }
 }
 
-fn shown(said: &mut [u8; 65536], at: usize, x: u8, manner: u8) -> usize {
+fn shown(rt: &HostRuntime, said: &mut [u8; 65536], at: usize, x: u8, manner: u8) -> usize {
     match is_plain(x, least(manner), odd(manner), odder(manner)) {
-        true => octet(said, at, x),
-        false => escaped(said, at, x, manner),
+        true => octet(rt, said, at, x),
+        false => escaped(rt, said, at, x, manner),
     }
 }
 
@@ -163,25 +208,31 @@ fn are_plain(s: &[u8], least: u8, odd: u8, odder: u8) -> bool {
     all
 }
 
-fn octet_by_octet(said: &mut [u8; 65536], at: usize, s: &[u8], manner: u8) -> usize {
+fn octet_by_octet(
+    rt: &HostRuntime,
+    said: &mut [u8; 65536],
+    at: usize,
+    s: &[u8],
+    manner: u8,
+) -> usize {
     let mut at = at;
     for i in 0..s.len() {
         let x = s[i];
-        at = shown(said, at, x, manner);
+        at = shown(rt, said, at, x, manner);
     }
     at
 }
 
 // Octets, mostly such as stand for themselves.
-pub fn octets(said: &mut [u8; 65536], at: usize, s: &[u8], manner: u8) -> usize {
+pub fn octets(rt: &HostRuntime, said: &mut [u8; 65536], at: usize, s: &[u8], manner: u8) -> usize {
     if are_plain(s, least(manner), odd(manner), odder(manner)) {
-        return words(said, at, s);
+        return words(rt, said, at, s);
     }
-    octet_by_octet(said, at, s, manner)
+    octet_by_octet(rt, said, at, s, manner)
 }
 
-pub fn decimal(said: &mut [u8; 65536], at: usize, n: u64) -> usize {
+pub fn decimal(rt: &HostRuntime, said: &mut [u8; 65536], at: usize, n: u64) -> usize {
     let mut digits = [0u8; 20];
     let k = io::decimal(n, &mut digits);
-    words(said, at, &digits[..k])
+    words(rt, said, at, &digits[..k])
 }

@@ -1,6 +1,9 @@
 // The records of a file: listed, or counted up to where the file stops; of one of them its header or its body.
+use crate::inputs::Input;
+use crate::out::Stream;
 use crate::{blocks, forms, inputs, out, texts};
 use leaves::names;
+use std::io::IsTerminal;
 
 // What is done with the records: they are counted, listed in columns, described in JSON; the first is shown, or its body is written.
 pub const COUNT: u64 = 0;
@@ -38,18 +41,18 @@ const ENOUGH: u64 = 18446744073709551613;
 // A line of progress for every 256 MiB.
 const STRIDE: u64 = 268435456;
 
-fn say_progress(good: u64, position: u64) {
+fn say_progress(rt: &HostRuntime, good: u64, position: u64) {
     let mut said = [0u8; 65536];
-    let at = forms::tell(&mut said, forms::SO_FAR, good, position, 0, 0);
-    out::flush(libc::STDERR_FILENO, &said, at);
+    let at = forms::tell(rt, &mut said, forms::SO_FAR, good, position, 0, 0);
+    out::flush(rt, Stream::Error, &said, at);
 }
 
 // Says on a terminal how far a long file is walked over, where the last piece passed a stride.
-fn progress(good: u64, position: u64, piece: u64) {
+fn progress(rt: &HostRuntime, good: u64, position: u64, piece: u64) {
     if position % STRIDE < piece {
         if position >= STRIDE {
-            if libc::isatty(libc::STDERR_FILENO) == 1 {
-                say_progress(good, position);
+            if rt.stderr().is_terminal() {
+                say_progress(rt, good, position);
             }
         }
     }
@@ -108,6 +111,7 @@ fn nth(record: &[u64; 4], i: usize) -> u64 {
 
 // A record's line: start, body offset, length, type, date, target URI.
 fn list<'a>(
+    rt: &HostRuntime,
     said: &mut [u8; 65536],
     at: usize,
     record: &[u64; 4],
@@ -129,11 +133,12 @@ fn list<'a>(
         uri.from,
         uri.to,
     ];
-    forms::say(said, at, forms::LISTED, &numbers, block, store)
+    forms::say(rt, said, at, forms::LISTED, &numbers, block, store)
 }
 
 // A record as an object of JSON.
 fn describe<'a>(
+    rt: &HostRuntime,
     said: &mut [u8; 65536],
     at: usize,
     path: &[u8],
@@ -158,9 +163,10 @@ fn describe<'a>(
         uri.from,
         uri.to,
     ];
-    let a = out::words(said, at, b"{\"file\":");
-    let b = forms::string(said, a, path);
+    let a = out::words(rt, said, at, b"{\"file\":");
+    let b = forms::string(rt, said, a, path);
     forms::fill(
+        rt,
         said,
         b,
         b",\"start\":#,\"body\":#,\"length\":#,\"type\":*,\"date\":*,\"uri\":*}|",
@@ -172,6 +178,7 @@ fn describe<'a>(
 
 // A record's numbers and its header.
 fn show<'a>(
+    rt: &HostRuntime,
     said: &mut [u8; 65536],
     record: &[u64; 4],
     head: &[u64; 13],
@@ -180,6 +187,7 @@ fn show<'a>(
     store: &'a [u8; 32768],
 ) -> usize {
     let at = forms::tell(
+        rt,
         said,
         forms::RECORD,
         nth(record, 0),
@@ -187,11 +195,12 @@ fn show<'a>(
         nth(record, 2),
         nth(record, 3),
     );
-    blocks::map(said, at, head, table, block, store)
+    blocks::map(rt, said, at, head, table, block, store)
 }
 
 // What is said of a record that begins.
 fn tell<'a>(
+    rt: &HostRuntime,
     said: &mut [u8; 65536],
     at: usize,
     manner: u64,
@@ -207,18 +216,18 @@ fn tell<'a>(
         return at;
     }
     match manner {
-        LIST => list(said, at, record, head, table, block, store),
-        DESCRIBE => describe(said, at, path, record, head, table, block, store),
-        SHOW => show(said, record, head, table, block, store),
+        LIST => list(rt, said, at, record, head, table, block, store),
+        DESCRIBE => describe(rt, said, at, path, record, head, table, block, store),
+        SHOW => show(rt, said, record, head, table, block, store),
         _ => at,
     }
 }
 
 // Writes a part of a body where that is asked for. Answers how far the piece goes, or UNWRITTEN.
-fn write(manner: u64, answer: u32, part: &[u8], to: u64) -> u64 {
+fn write(rt: &HostRuntime, manner: u64, answer: u32, part: &[u8], to: u64) -> u64 {
     if manner == WRITE {
         if answer == BODY {
-            if out::send(libc::STDOUT_FILENO, part) {
+            if out::send(rt, Stream::Output, part) {
                 return to;
             }
             return UNWRITTEN;
@@ -275,22 +284,32 @@ fn whole(trail: &[u64; 4]) -> u64 {
 }
 
 // The name of a file that is one of several, before what is said of it.
-fn say_name(said: &mut [u8; 65536], several: bool, path: &[u8]) -> usize {
+fn say_name(rt: &HostRuntime, said: &mut [u8; 65536], several: bool, path: &[u8]) -> usize {
     match several {
         true => {
-            let at = out::octets(said, 0, path, out::TEXT);
-            out::words(said, at, b": ")
+            let at = out::octets(rt, said, 0, path, out::TEXT);
+            out::words(rt, said, at, b": ")
         }
         false => 0,
     }
 }
 
-fn say(said: &mut [u8; 65536], at: usize, form: usize, a: u64, b: u64, c: u64, d: u64) -> usize {
-    forms::say(said, at, form, &[a, b, c, d], b"", b"")
+fn say(
+    rt: &HostRuntime,
+    said: &mut [u8; 65536],
+    at: usize,
+    form: usize,
+    a: u64,
+    b: u64,
+    c: u64,
+    d: u64,
+) -> usize {
+    forms::say(rt, said, at, form, &[a, b, c, d], b"", b"")
 }
 
 // Says how a file ends.
 fn say_ending(
+    rt: &HostRuntime,
     said: &mut [u8; 65536],
     at: usize,
     how: u64,
@@ -299,27 +318,27 @@ fn say_ending(
     whole: u64,
 ) -> usize {
     match how {
-        END => say(said, at, forms::GOOD, good, position, 0, 0),
-        UNREAD => say(said, at, forms::UNREADABLE, position, good, whole, 0),
+        END => say(rt, said, at, forms::GOOD, good, position, 0, 0),
+        UNREAD => say(rt, said, at, forms::UNREADABLE, position, good, whole, 0),
         UNWRITTEN => 0,
-        _ => say(said, at, forms::STOPPED, position, how, good, whole),
+        _ => say(rt, said, at, forms::STOPPED, position, how, good, whole),
     }
 }
 
 // Says what is amiss with the one record that was asked for.
-fn say_failure(said: &mut [u8; 65536], how: u64, position: u64) -> usize {
+fn say_failure(rt: &HostRuntime, said: &mut [u8; 65536], how: u64, position: u64) -> usize {
     match how {
-        END => say(said, 0, forms::NO_RECORD, position, 0, 0, 0),
+        END => say(rt, said, 0, forms::NO_RECORD, position, 0, 0, 0),
         UNREAD | UNWRITTEN | ENOUGH => 0,
-        _ => say(said, 0, forms::BROKEN, position, how, 0, 0),
+        _ => say(rt, said, 0, forms::BROKEN, position, how, 0, 0),
     }
 }
 
 // Behind a listing, what is told goes to standard error.
-fn target(manner: u64) -> i32 {
+fn target(manner: u64) -> Stream {
     match manner {
-        COUNT => libc::STDOUT_FILENO,
-        _ => libc::STDERR_FILENO,
+        COUNT => Stream::Output,
+        _ => Stream::Error,
     }
 }
 
@@ -342,6 +361,7 @@ fn lacks(manner: u64, how: u64) -> bool {
 
 // Writes what was said of the records, and says how the file ends.
 fn conclude(
+    rt: &HostRuntime,
     said: &mut [u8; 65536],
     at: usize,
     path: &[u8],
@@ -352,15 +372,15 @@ fn conclude(
     position: u64,
     whole: u64,
 ) -> u64 {
-    let first = out::flush(libc::STDOUT_FILENO, said, at);
+    let first = out::flush(rt, Stream::Output, said, at);
     let n = match manner {
-        SHOW | WRITE => say_failure(said, how, position),
+        SHOW | WRITE => say_failure(rt, said, how, position),
         _ => {
-            let behind = say_name(said, several, path);
-            say_ending(said, behind, how, good, position, whole)
+            let behind = say_name(rt, said, several, path);
+            say_ending(rt, said, behind, how, good, position, whole)
         }
     };
-    let second = out::flush(target(manner), said, n);
+    let second = out::flush(rt, target(manner), said, n);
     if lacks(manner, how) {
         return inputs::BAD;
     }
@@ -446,7 +466,8 @@ fn step(
 
 // Writes what was listed, and reads the next piece: how many octets came, UNREAD or UNWRITTEN.
 fn fill(
-    fd: i32,
+    rt: &HostRuntime,
+    input: &mut Input,
     path: &[u8],
     typed: &mut [u8; 262144],
     said: &[u8; 65536],
@@ -455,9 +476,9 @@ fn fill(
     trail: &[u64; 4],
     to: u64,
 ) -> u64 {
-    if out::flush(libc::STDOUT_FILENO, said, at) == 0 {
-        progress(good, trail[0], to);
-        return inputs::read(fd, path, typed);
+    if out::flush(rt, Stream::Output, said, at) == 0 {
+        progress(rt, good, trail[0], to);
+        return inputs::read(rt, input, path, typed);
     }
     UNWRITTEN
 }
@@ -470,7 +491,14 @@ fn is_last(to: u64) -> bool {
 }
 
 // Every call of the walker, and what it leaves. Of the piece that was read, the octets from `from` before `to` are not walked over yet.
-fn walk_over(fd: i32, path: &[u8], several: bool, manner: u64, position: u64) -> u64 {
+fn walk_over(
+    rt: &HostRuntime,
+    input: &mut Input,
+    path: &[u8],
+    several: bool,
+    manner: u64,
+    position: u64,
+) -> u64 {
     let mut typed = [0u8; 262144];
     let mut said = [0u8; 65536];
     let mut trail = [0u64; 4];
@@ -488,7 +516,7 @@ fn walk_over(fd: i32, path: &[u8], several: bool, manner: u64, position: u64) ->
     start(&mut trail, &mut head, &table, position, &block, &store);
     for _ in 0..inputs::TURNS {
         if from == to {
-            to = fill(fd, path, &mut typed, &said, at, good, &trail, to);
+            to = fill(rt, input, path, &mut typed, &said, at, good, &trail, to);
             from = 0;
             at = 0;
         }
@@ -506,11 +534,11 @@ fn walk_over(fd: i32, path: &[u8], several: bool, manner: u64, position: u64) ->
             &mut record,
         );
         let behind = std::num::wrapping_add_u64(from, taken);
-        to = write(manner, answer, inputs::piece(&typed, from, behind), to);
+        to = write(rt, manner, answer, inputs::piece(&typed, from, behind), to);
         from = behind;
         good = std::num::wrapping_add_u64(good, passed(answer, &trail));
         at = tell(
-            &mut said, at, manner, answer, path, &record, &head, &table, &block, &store,
+            rt, &mut said, at, manner, answer, path, &record, &head, &table, &block, &store,
         );
         if is_over(manner, answer, good) {
             break;
@@ -519,6 +547,7 @@ fn walk_over(fd: i32, path: &[u8], several: bool, manner: u64, position: u64) ->
     let ended = end(&mut trail, &mut head, &table, &block, &store);
     let how = how(manner, answer, good, to, ended);
     let status = conclude(
+        rt,
         &mut said,
         at,
         path,
@@ -529,35 +558,45 @@ fn walk_over(fd: i32, path: &[u8], several: bool, manner: u64, position: u64) ->
         trail[0],
         whole(&trail),
     );
-    inputs::remark(help(manner, how, trail[0], whole(&trail), &block), path, 0);
+    inputs::remark(
+        rt,
+        help(manner, how, trail[0], whole(&trail), &block),
+        path,
+        0,
+    );
     status
 }
 
 // The line before the list of a file that is one of several.
-fn headline(path: &[u8], several: bool, manner: u64) -> u64 {
+fn headline(rt: &HostRuntime, path: &[u8], several: bool, manner: u64) -> u64 {
     match manner {
-        LIST => inputs::headline(path, several),
+        LIST => inputs::headline(rt, path, several),
         _ => inputs::GOOD,
     }
 }
 
-fn walk_under(fd: i32, path: &[u8], several: bool, manner: u64, position: u64) -> u64 {
-    match headline(path, several, manner) {
-        inputs::GOOD => walk_over(fd, path, several, manner, position),
+fn walk_under(
+    rt: &HostRuntime,
+    input: &mut Input,
+    path: &[u8],
+    several: bool,
+    manner: u64,
+    position: u64,
+) -> u64 {
+    match headline(rt, path, several, manner) {
+        inputs::GOOD => walk_over(rt, input, path, several, manner, position),
         failed => failed,
     }
 }
 
 // Walks over a file from a position on, and says how it ends.
-pub fn walk(path: &[u8], several: bool, manner: u64, position: u64) -> u64 {
-    let fd = inputs::open(path);
-    if fd < 0 {
+pub fn walk(rt: &HostRuntime, path: &[u8], several: bool, manner: u64, position: u64) -> u64 {
+    let mut input = inputs::open(rt, path);
+    if inputs::is_absent(&input) {
         return inputs::UNREAD;
     }
     if position > 0 {
-        inputs::seek(fd, position);
+        inputs::seek(rt, &mut input, position);
     }
-    let status = walk_under(fd, path, several, manner, position);
-    inputs::close(fd, path);
-    status
+    walk_under(rt, &mut input, path, several, manner, position)
 }
