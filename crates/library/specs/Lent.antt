@@ -1,5 +1,5 @@
 -- A map and a walker's trail in numbers that a caller lends, and the calls over them. Each public function with what its contract hands to a caller. `proofs/Contracts` inhabits it. Assumes nothing.
-use Rattle.std.specs.Prelude.{◌≡◌, List, ◌-◌, length}
+use Rattle.std.specs.Prelude.{◌≡◌, List, ◌-◌}
 use Rattle.maps.specs.Good.{checked, checked_done, good_fields}
 use Rattle.maps.specs.Heads.{under, unmade_head}
 use Rattle.maps.specs.Maps.{Is}
