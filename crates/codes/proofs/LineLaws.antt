@@ -13,6 +13,7 @@ use Rattle.leaves.proofs.ChoiceLaws.{by_if, clash}
 use Rattle.leaves.specs.Number.{decimal, is_decimal, content_length}
 use Rattle.leaves.specs.Octets.{octets, before, same_list}
 use Rattle.leaves.proofs.NameLaws.{apart}
+use Rattle.leaves.proofs.PasteLaws.{tail_all}
 use Rattle.codes.specs.declared.line.Code.{Code}
 use Rattle.codes.specs.declared.line.Code.TheVariants.{None}
 use Rattle.codes.specs.declared.line.Start.TheVariants.{Begins, None as NoStart}
@@ -72,6 +73,9 @@ pub plus_gone : (s : List ℕ) → (length s ≡ 0 → ⊥) → get_or s 0 0 ≡
 unfolding without_plus when◌then◌else◌
 plus_gone [] h e = absurd (h refl)
 plus_gone (x ∷ xs) h e = rw (eq-eqb x 43 e)
+
+pub plus_tail : (s : List ℕ) → (length s ≡ 0 → ⊥) → get_or s 0 0 ≡ 43 → take (length s - 1) (drop 1 s) ≡ without_plus s
+plus_tail s h e = tail_all s 1 ∙ plus_gone s h e
 
 pub plus_kept : (s : List ℕ) → (length s ≡ 0 → ⊥) → (get_or s 0 0 ≡ 43 → ⊥) → s ≡ without_plus s
 unfolding without_plus when◌then◌else◌

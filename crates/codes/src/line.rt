@@ -42,6 +42,7 @@ fn behind_space(text: &[u8], from: usize) -> Start
     Start::None
 }
 
+#[tactic(auto, using(crate::proofs::LineLaws::plus_empty, crate::proofs::LineLaws::plus_tail, crate::proofs::LineLaws::plus_kept))]
 fn without_plus<'a>(text: &'a [u8]) -> &'a [u8]
     ensures { result.now ≡ without_plus text.now }
 {
@@ -55,6 +56,7 @@ fn without_plus<'a>(text: &'a [u8]) -> &'a [u8]
 }
 
 // The number of one or more digits, at most 65,535.
+#[tactic(auto, using(crate::proofs::LineLaws::number_small, crate::proofs::LineLaws::number_large, crate::proofs::LineLaws::number_none))]
 fn small_number(text: &[u8]) -> Code
     ensures { result ≡ code_told (small_number text.now) }
 {

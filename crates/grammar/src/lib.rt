@@ -36,6 +36,7 @@ fn open_line(t: &[u8; 256], x: u8) -> Stage
 }
 
 // A line begins that may be a folded one too.
+#[tactic(auto, using(leaves::proofs::ChoiceLaws::choices), unfolding(crate::specs::Walk::folded))]
 fn fold_line(t: &[u8; 256], x: u8) -> Stage
     requires { Classified t.now }
     ensures { result ≡ folded x }
@@ -49,6 +50,7 @@ fn fold_line(t: &[u8; 256], x: u8) -> Stage
     open_line(t, x)
 }
 
+#[tactic(auto, using(leaves::proofs::ChoiceLaws::choices), unfolding(crate::specs::Walk::keyed))]
 fn take_key(t: &[u8; 256], x: u8) -> Stage
     requires { Classified t.now }
     ensures { result ≡ keyed x }
@@ -76,6 +78,7 @@ fn take_text(t: &[u8; 256], x: u8) -> Stage
 }
 
 // Behind a CR only LF goes on.
+#[tactic(auto, using(leaves::proofs::ChoiceLaws::choices), unfolding(crate::specs::Walk::awaited))]
 fn await_lf(onward: Stage, x: u8) -> Stage
     ensures { result ≡ awaited onward x }
 {

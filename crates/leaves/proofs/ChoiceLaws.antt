@@ -66,3 +66,6 @@ eqb_sym a b = choose (eqb b a) refl
     choose : (t : Bool) → eqb b a ≡ t → eqb a b ≡ t
     choose true e = eq-eqb a b (sym (eqb-true b a e))
     choose false e = ne_eqb a b (λ d. eqb-false b a e (sym d))
+
+-- for the search: which side a choice takes
+pub ruleset choices = (if_true, if_false)

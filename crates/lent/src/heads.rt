@@ -71,6 +71,7 @@ fn phase_of(n: u64) -> Phase
 }
 
 // The head that numbers are.
+#[tactic(auto, using(crate::proofs::LentLaws::head_long))]
 pub fn head_at(n: &[u64]) -> Head
     requires { sound_head n.now ≡ true }
     ensures { result ≡ head_of n.now }

@@ -127,6 +127,7 @@ pub fn live_map(h: Head, t: &[u32]) -> HeaderMap
 }
 
 // Whether numbers are a map's.
+#[tactic(auto, unfolding(crate::specs::Numbers::sound_map))]
 pub fn is_sound(n: &[u64], t: &[u32]) -> bool
     ensures { result ≡ sound_map n.now t.now }
 {
@@ -137,6 +138,7 @@ pub fn is_sound(n: &[u64], t: &[u32]) -> bool
 }
 
 // Whether numbers are as many as a map's.
+#[tactic(auto, unfolding(crate::specs::Numbers::long_map))]
 pub fn is_long(n: &[u64], t: &[u32]) -> bool
     ensures { result ≡ long_map n.now t.now }
 {

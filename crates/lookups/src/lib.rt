@@ -89,6 +89,7 @@ pub enum Slot {
 }
 
 // The field i: none for a wrong number or a refusal.
+#[tactic(auto, using(maps::proofs::GoodLaws::ready_of, crate::proofs::HandLaws::slot_fine, crate::proofs::HandLaws::slot_wrong, crate::proofs::HandLaws::slot_refused))]
 fn slot_at(m: HeaderMap, block: &[u8], store: &[u8], i: usize) -> Slot
     ensures { result ≡ slot_of m block.now store.now i }
 {

@@ -132,6 +132,7 @@ fn length_text<'a>(times: usize, p: Place, block: &'a [u8], store: &'a [u8]) -> 
     &block[0..0]
 }
 
+#[tactic(auto, using(leaves::proofs::ChoiceLaws::choices), unfolding(crate::specs::Sights::kind_code))]
 fn kind_code<'a>(times: usize, p: Place, block: &'a [u8], store: &'a [u8]) -> u16
     ensures { result ≡ kind_code block.now store.now times p }
 {

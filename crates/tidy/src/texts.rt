@@ -28,6 +28,7 @@ pub fn is_neat(text: &[u8]) -> bool
 }
 
 // Neat, and not empty.
+#[tactic(auto, using(crate::proofs::TextLaws::bare_status, crate::proofs::TextLaws::full_status))]
 pub fn is_clean_status(text: &[u8]) -> bool
     ensures { result ≡ clean_status (some text.now) }
 {

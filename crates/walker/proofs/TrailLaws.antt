@@ -2,14 +2,15 @@
 use mathlib.Core.Path.{◌≡◌, refl, sym, ap, ◌∙◌, subst}
 use mathlib.Core.Bool.{Bool, true, false}
 use mathlib.Core.List.{List}
-use Prim.Native.Nat.{ℕ, ◌+◌, ◌-◌, ◌≤◌}
+use Prim.Native.Nat.{ℕ, ◌+◌, ◌-◌, ◌≤◌, ◌<◌}
 use native.Mathlib.Omega.{arith}
 use lib.Dec.{eqb}
 use lib.ListN.{length, take, drop}
-use borrow.Author.Tests.{eqb-true, eqb-false}
+use borrow.Author.Tests.{eqb-true, eqb-false, lt-ltb, le-ltb}
 use Rattle.leaves.specs.Choice.{when◌then◌else◌}
 use Rattle.leaves.proofs.ChoiceLaws.{if_true, if_false, clash}
 use Rattle.leaves.specs.Paste.{lay}
+use Rattle.leaves.specs.Refusals.{refusal}
 use Rattle.leaves.specs.declared.refusals.Refusal.{Refusal}
 use Rattle.maps.specs.Good.{checked, checked_reading, checked_done}
 use Rattle.maps.specs.Maps.{Given, Is}
@@ -26,7 +27,7 @@ use Rattle.reader.specs.declared.Fed.{Fed}
 use Rattle.reader.proofs.CallLaws.{feeding_stops}
 use Rattle.readings.proofs.Kept.{Sound, fed_within, sound_of, good_of, lent_of}
 use Rattle.readings.proofs.Cut.{fed_goes}
-use Rattle.openings.specs.Opening.{opening}
+use Rattle.openings.specs.Opening.{opening, longest}
 use Rattle.walker.specs.Walk.{keeps, stands, ready_at, resting, checked_walker, allowed, header_by, header_read, between_walked, header_walked, stage_walked, walked_on, stops_at, stage_ended, walking, ending}
 use Rattle.walker.specs.Trails.{walker_of, trail_of, kept_map, with_map, Follows, turned, Reaches, Turning, way_of, way_walked, checked_rest, Turns, Ends, Judged, headed_by, headed_walked}
 use Rattle.walker.specs.declared.Stage.{Stage}
@@ -46,6 +47,13 @@ use Rattle.walker.specs.declared.Way.TheVariants.{Passes, Trails}
 use Rattle.walker.specs.declared.Turn.{Turn}
 use Rattle.walker.specs.declared.Turn.TheVariants.{Stays as Standing, Reads}
 use Rattle.walker.proofs.WalkLaws.{allowed_within, allowed_all, rest_none, rest_some, between_on, header_on, on_empty, on_stage, walk_rests, walk_over, walk_checked, walk_stopped, end_rests, end_over, end_checked, end_stopped, is_given, header_reads, kept, going}
+
+-- a rest over the cap, and one that is not
+pub rest_long : (rest : ℕ) (c : Checked) → longest < rest → Bad (refusal 3) ≡ checked_rest rest c
+rest_long rest c h = sym (if_true _ _ (lt-ltb _ _ h))
+
+pub rest_fits : (rest : ℕ) (c : Checked) → rest ≤ longest → c ≡ checked_rest rest c
+rest_fits rest c h = sym (if_false _ _ (le-ltb _ _ h))
 
 -- which way a walker goes
 module _ (w : Walker) (b s p : List ℕ) where

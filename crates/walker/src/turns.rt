@@ -299,6 +299,7 @@ fn turn_on(t: Trail, piece: &[u8]) -> Turn
 }
 
 // What a map's first checks say, or 3 for a rest that is too long.
+#[tactic(auto, using(crate::proofs::TrailLaws::rest_long, crate::proofs::TrailLaws::rest_fits))]
 fn check_rest(rest: u64, c: Checked) -> Checked
     ensures { result ≡ checked_rest rest c }
 {

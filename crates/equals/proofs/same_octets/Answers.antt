@@ -3,7 +3,7 @@ use Rattle.equals.proofs.OctetLaws.{same_more, same_stop, same_end}
 use Rattle.leaves.proofs.NameLaws.{apart}
 use borrow.Author.Rules.{rules}
 use native.Mathlib.Omega.{arith}
-use mathlib.Core.Path.{sym, ◌∙◌}
+use mathlib.Core.Path.{sym, ◌∙◌, refl}
 use Rattle.equals.proofs.same_octets.Goals as goal
 
 pub returns-then-a-b : goal.returns-then-a-b
@@ -23,3 +23,6 @@ pub returns : goal.returns
 returns c =
     let s = c.args in
     sym (c.loop-i.invariant.2 ∙ same_end s.a.now s.b.now c.loop-i.i (omega arith) (omega arith))
+
+pub loop-i-init : goal.loop-i-init
+loop-i-init c = (search rules, search rules, refl)

@@ -1,4 +1,6 @@
 -- `lent::live_table` meets its contract. Assumes nothing.
+use lib.Seq.{paste-zero}
+use Rattle.lent.specs.Table.{table_of}
 use lib.ListN.{replicate}
 use Rattle.maps.specs.Places.{no_field}
 use Rattle.lent.proofs.LentLaws.{out_step, out_end}
@@ -16,3 +18,6 @@ loop-i-preserved c =
 
 pub returns : goal.returns
 returns c = out_end c.args.t.now (replicate 256 no_field) refl c.loop-i.table c.args.n c.loop-i.i c.requires.0 c.loop-i.invariant.0 c.loop-i-test.false c.loop-i.invariant.2
+
+pub loop-i-init : goal.loop-i-init
+loop-i-init c = (search rules, search rules, paste-zero (replicate 256 no_field) 0 (table_of c.args.t.now))

@@ -1,4 +1,6 @@
 -- `reader::feed_lines` meets its contract. Assumes nothing.
+use Rattle.line_reader.proofs.HeldLaws.{feeding_start}
+use mathlib.Core.Path.{refl}
 use native.Mathlib.Omega.{arith}
 use Rattle.line_reader.proofs.LineSteps.{seated, able}
 use Rattle.reader.proofs.EndLaws.{handled_nears, handled_on, handled_puts, feed_end}
@@ -64,3 +66,6 @@ pub returns : goal.returns
 returns c =
     let l = c.loop-going in
     rw (c.map_under-map.ensures, l.invariant.0) (feed_end l.t l.h (rw c.head_of-h.ensures at l.invariant.1) c.loop-going-test.false)
+
+pub loop-going-init : goal.loop-going-init
+loop-going-init c = (refl, rw c.head_of-h.ensures (feeding_start _ c.requires c.well_formed.0.1.1.0.1.0.1))
