@@ -1,5 +1,6 @@
 // Standard input, a line at a time.
 use crate::{memory, prints};
+use std::io::Read;
 
 // The line at hand lies from `from` to before `to` of what was read, which ends at `end`. Ready says that there is one, over that
 // nothing is to come.
@@ -63,11 +64,15 @@ fn read_behind(n: usize, more: usize) -> Input {
     c
 }
 
+// One read: how many octets it put there, none at the end of the input and where it fails.
+fn read(rt: &HostRuntime, into: &mut [u8]) -> usize {
+    rt.stdin().read(into).unwrap_or(0)
+}
+
 // Reads on behind the first n octets.
-fn read_on(typed: &mut [u8], n: usize) -> Input {
+fn read_on(rt: &HostRuntime, typed: &mut [u8], n: usize) -> Input {
     if n < typed.len() {
-        let got = libc::read(libc::STDIN_FILENO, &mut typed[n..]);
-        let more = io::count(got, &typed[n..]);
+        let more = read(rt, &mut typed[n..]);
         return read_behind(n, more);
     }
     read_behind(n, 0)
@@ -82,7 +87,7 @@ fn left(c: Input) -> usize {
 }
 
 // One step to the next line, where none is at hand: it is found in what was read, or more is read behind the rest of it.
-pub fn next(typed: &mut [u8], c: Input) -> Input {
+pub fn next(rt: &HostRuntime, typed: &mut [u8], c: Input) -> Input {
     if c.ready {
         return c;
     }
@@ -92,13 +97,13 @@ pub fn next(typed: &mut [u8], c: Input) -> Input {
     }
     let n = left(c);
     memory::shift(typed, c.from, 0, n);
-    read_on(typed, n)
+    read_on(rt, typed, n)
 }
 
 // Writes out what was said, where all that was read is used up.
-pub fn flushed(said: &[u8], at: usize, c: Input) -> usize {
+pub fn flushed(rt: &HostRuntime, said: &[u8], at: usize, c: Input) -> usize {
     if c.from >= c.end {
-        return prints::flush(said, at);
+        return prints::flush(rt, said, at);
     }
     at
 }

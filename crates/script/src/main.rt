@@ -24,7 +24,7 @@ const ENDED: [u64; 4] = [0, 0, 0, 7];
 
 // The memory: what was read, what is to be written, the octets of a word's arguments or the output that it writes into, the blocks and stores of
 // the map and the kept map, LOAN octets for each, and their numbers. A turn of the loop reads on, or does one word or one call on a piece.
-fn main() {
+fn main(rt: HostRuntime) {
     let mut typed = memory::long_room();
     let mut said = memory::room();
     let mut desk = memory::room();
@@ -39,8 +39,8 @@ fn main() {
     let mut s = state::fresh();
     let mut at = 0;
     for _ in 0..TURNS {
-        at = inputs::flushed(&said, at, c);
-        c = inputs::next(&mut typed, c);
+        at = inputs::flushed(&rt, &said, at, c);
+        c = inputs::next(&rt, &mut typed, c);
         if c.over {
             return;
         }
@@ -67,7 +67,7 @@ fn main() {
             s,
         );
         at = shows::say(
-            &mut said, at, t, word, &head, &table, &block, &store, &desk, s,
+            &rt, &mut said, at, t, word, &head, &table, &block, &store, &desk, s,
         );
         s = state::behind(s, o, t.on);
         let over = orders::ends_line(word);

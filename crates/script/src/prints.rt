@@ -1,10 +1,16 @@
 // What is printed, by way of a lent buffer. Each call answers where in the buffer the next character goes.
-pub fn character(said: &mut [u8], at: usize, x: u8) -> usize {
+
+// Writes octets out; those that a write fails on are lost.
+fn put(rt: &HostRuntime, said: &[u8]) {
+    let _ = rt.write_all(said);
+}
+
+pub fn character(rt: &HostRuntime, said: &mut [u8], at: usize, x: u8) -> usize {
     if at < said.len() {
         said[at] = x;
         return at + 1;
     }
-    io::write_all(libc::STDOUT_FILENO, said);
+    put(rt, said);
     if said.len() > 0 {
         said[0] = x;
         return 1;
@@ -13,18 +19,18 @@ pub fn character(said: &mut [u8], at: usize, x: u8) -> usize {
 }
 
 // Writes out what is there.
-pub fn flush(said: &[u8], at: usize) -> usize {
+pub fn flush(rt: &HostRuntime, said: &[u8], at: usize) -> usize {
     if at <= said.len() {
-        io::write_all(libc::STDOUT_FILENO, &said[0..at]);
+        put(rt, &said[0..at]);
     }
     0
 }
 
-fn text(said: &mut [u8], at: usize, words: &[u8]) -> usize {
+fn text(rt: &HostRuntime, said: &mut [u8], at: usize, words: &[u8]) -> usize {
     let mut at = at;
     for i in 0..words.len() {
         let x = words[i];
-        at = character(said, at, x);
+        at = character(rt, said, at, x);
     }
     at
 }
@@ -39,33 +45,33 @@ fn glyph(d: u8) -> u8 {
     b'?'
 }
 
-fn octet(said: &mut [u8], at: usize, x: u8) -> usize {
-    let high = character(said, at, glyph(x / 16));
-    character(said, high, glyph(x % 16))
+fn octet(rt: &HostRuntime, said: &mut [u8], at: usize, x: u8) -> usize {
+    let high = character(rt, said, at, glyph(x / 16));
+    character(rt, said, high, glyph(x % 16))
 }
 
 // Octets in hex, `-` for none.
-pub fn octets(said: &mut [u8], at: usize, s: &[u8]) -> usize {
+pub fn octets(rt: &HostRuntime, said: &mut [u8], at: usize, s: &[u8]) -> usize {
     if s.len() == 0 {
-        return character(said, at, b'-');
+        return character(rt, said, at, b'-');
     }
     let mut at = at;
     for i in 0..s.len() {
         let x = s[i];
-        at = octet(said, at, x);
+        at = octet(rt, said, at, x);
     }
     at
 }
 
-pub fn decimal(said: &mut [u8], at: usize, n: u64) -> usize {
+pub fn decimal(rt: &HostRuntime, said: &mut [u8], at: usize, n: u64) -> usize {
     let mut digits = [0u8; 20];
     let k = io::decimal(n, &mut digits);
-    text(said, at, &digits[..k])
+    text(rt, said, at, &digits[..k])
 }
 
-pub fn flag(said: &mut [u8], at: usize, x: bool) -> usize {
+pub fn flag(rt: &HostRuntime, said: &mut [u8], at: usize, x: bool) -> usize {
     if x {
-        return character(said, at, b'1');
+        return character(rt, said, at, b'1');
     }
-    character(said, at, b'0')
+    character(rt, said, at, b'0')
 }

@@ -7,13 +7,20 @@ use crate::{memory, prints, state, told};
 const LENGTH: usize = 8;
 
 // A character of a text, or the number k where `#` stands.
-fn character(said: &mut [u8], at: usize, x: u8, numbers: [u64; 3], k: usize) -> usize {
+fn character(
+    rt: &HostRuntime,
+    said: &mut [u8],
+    at: usize,
+    x: u8,
+    numbers: [u64; 3],
+    k: usize,
+) -> usize {
     if x == b'#' {
         if k < 3 {
-            return prints::decimal(said, at, numbers[k]);
+            return prints::decimal(rt, said, at, numbers[k]);
         }
     }
-    prints::character(said, at, x)
+    prints::character(rt, said, at, x)
 }
 
 // How many numbers were named up to a character.
@@ -25,7 +32,7 @@ fn named(k: usize, x: u8) -> usize {
 }
 
 // A text, with its numbers.
-fn text(said: &mut [u8], at: usize, letters: u64, numbers: [u64; 3]) -> usize {
+fn text(rt: &HostRuntime, said: &mut [u8], at: usize, letters: u64, numbers: [u64; 3]) -> usize {
     let mut at = at;
     let mut rest = letters;
     let mut k = 0;
@@ -34,7 +41,7 @@ fn text(said: &mut [u8], at: usize, letters: u64, numbers: [u64; 3]) -> usize {
             return at;
         }
         let x = (rest % 256) as u8;
-        at = character(said, at, x, numbers, k);
+        at = character(rt, said, at, x, numbers, k);
         k = named(k, x);
         rest = rest / 256;
     }
@@ -42,9 +49,17 @@ fn text(said: &mut [u8], at: usize, letters: u64, numbers: [u64; 3]) -> usize {
 }
 
 // A text with a place in it, as `b0.1=`, and the octets there.
-fn place(said: &mut [u8], at: usize, letters: u64, from: u64, to: u64, loan: &[u8]) -> usize {
-    let behind = text(said, at, letters, [from, to, 0]);
-    prints::octets(said, behind, memory::part(loan, from, to))
+fn place(
+    rt: &HostRuntime,
+    said: &mut [u8],
+    at: usize,
+    letters: u64,
+    from: u64,
+    to: u64,
+    loan: &[u8],
+) -> usize {
+    let behind = text(rt, said, at, letters, [from, to, 0]);
+    prints::octets(rt, said, behind, memory::part(loan, from, to))
 }
 
 // How the place k of a list of fields is said: behind `,` the first key, behind `:` a value, behind `;` another key.
@@ -81,6 +96,7 @@ fn number(table: &[u32], i: usize) -> u64 {
 
 // The place of a table whose numbers stand from a given one on, the place k of a list.
 fn place_of(
+    rt: &HostRuntime,
     said: &mut [u8],
     at: usize,
     table: &[u32],
@@ -92,32 +108,47 @@ fn place_of(
     let from = number(table, i);
     let to = number(table, std::num::wrapping_add_usize(i, 1));
     if from < STORE {
-        return place(said, at, block_text(k), from, to, block);
+        return place(rt, said, at, block_text(k), from, to, block);
     }
-    place(said, at, store_text(k), from - STORE, to, store)
+    place(rt, said, at, store_text(k), from - STORE, to, store)
 }
 
 // In a table, offsets of the store begin at this number.
 const STORE: u64 = 2147483648;
 
 // The first n fields.
-fn list(said: &mut [u8], at: usize, table: &[u32], n: u64, block: &[u8], store: &[u8]) -> usize {
+fn list(
+    rt: &HostRuntime,
+    said: &mut [u8],
+    at: usize,
+    table: &[u32],
+    n: u64,
+    block: &[u8],
+    store: &[u8],
+) -> usize {
     let mut at = at;
     for k in 0..512 {
         if ((k / 2) as u64) >= n {
             return at;
         }
-        at = place_of(said, at, table, k * 2, k, block, store);
+        at = place_of(rt, said, at, table, k * 2, k, block, store);
     }
     at
 }
 
-fn status(said: &mut [u8], at: usize, head: &[u64; 13], block: &[u8], store: &[u8]) -> usize {
+fn status(
+    rt: &HostRuntime,
+    said: &mut [u8],
+    at: usize,
+    head: &[u64; 13],
+    block: &[u8],
+    store: &[u8],
+) -> usize {
     let kind = head[6];
     match kind {
-        0 => prints::character(said, at, b'-'),
-        1 => place(said, at, 262583231330, head[7], head[8], block), // b#.#=
-        _ => place(said, at, 262583231347, head[7], head[8], store), // s#.#=
+        0 => prints::character(rt, said, at, b'-'),
+        1 => place(rt, said, at, 262583231330, head[7], head[8], block), // b#.#=
+        _ => place(rt, said, at, 262583231347, head[7], head[8], store), // s#.#=
     }
 }
 
@@ -131,6 +162,7 @@ fn phase_text(phase: u64) -> u64 {
 
 // Phase, edited, count, line, mark, status, fields.
 fn map(
+    rt: &HostRuntime,
     said: &mut [u8],
     at: usize,
     head: &[u64; 13],
@@ -138,17 +170,24 @@ fn map(
     block: &[u8],
     store: &[u8],
 ) -> usize {
-    let a = text(said, at, phase_text(head[12]), [head[11], head[2], head[3]]);
-    let b = text(said, a, 2892588, [head[4], 0, 0]); // ,#,
-    let c = status(said, b, head, block, store);
+    let a = text(
+        rt,
+        said,
+        at,
+        phase_text(head[12]),
+        [head[11], head[2], head[3]],
+    );
+    let b = text(rt, said, a, 2892588, [head[4], 0, 0]); // ,#,
+    let c = status(rt, said, b, head, block, store);
     if head[5] == 0 {
-        return text(said, c, 11564, [0; 3]); // ,-
+        return text(rt, said, c, 11564, [0; 3]); // ,-
     }
-    list(said, c, table, head[5], block, store)
+    list(rt, said, c, table, head[5], block, store)
 }
 
 // The octets up to limit and room, and whether any past them changed.
 fn loans(
+    rt: &HostRuntime,
     said: &mut [u8],
     at: usize,
     limit: usize,
@@ -156,14 +195,14 @@ fn loans(
     block: &[u8],
     store: &[u8],
 ) -> usize {
-    let a = prints::octets(said, at, memory::front(block, limit));
-    let b = prints::character(said, a, b',');
-    let c = prints::octets(said, b, memory::front(store, room));
-    let d = prints::character(said, c, b',');
+    let a = prints::octets(rt, said, at, memory::front(block, limit));
+    let b = prints::character(rt, said, a, b',');
+    let c = prints::octets(rt, said, b, memory::front(store, room));
+    let d = prints::character(rt, said, c, b',');
     if memory::is_touched(block, limit) {
-        return prints::character(said, d, b'1');
+        return prints::character(rt, said, d, b'1');
     }
-    prints::flag(said, d, memory::is_touched(store, room))
+    prints::flag(rt, said, d, memory::is_touched(store, room))
 }
 
 // The octets that an answer shows.
@@ -178,6 +217,7 @@ fn shown<'a>(t: Told, block: &'a [u8], store: &'a [u8], desk: &'a [u8]) -> &'a [
 
 // What a word answered, behind what stands before it. Block and store are the memory that the loans are in.
 pub fn say<'a>(
+    rt: &HostRuntime,
     said: &mut [u8],
     at: usize,
     t: Told,
@@ -192,22 +232,30 @@ pub fn say<'a>(
     let answer = t.answer;
     let block = memory::front(block, s.block);
     let store = memory::front(store, s.store);
-    let gap = text(said, at, state::separator(s, word), [0; 3]);
+    let gap = text(rt, said, at, state::separator(s, word), [0; 3]);
     let first = text(
+        rt,
         said,
         gap,
         told::text_of(answer, word),
         [told::first_of(t), t.b, 0],
     );
-    let behind = text(said, first, told::tail_of(answer, word), [t.c, t.d, t.e]);
+    let behind = text(
+        rt,
+        said,
+        first,
+        told::tail_of(answer, word),
+        [t.c, t.d, t.e],
+    );
     match answer {
         told::IN_BLOCK | told::IN_STORE | told::BODY | told::SHEET => prints::octets(
+            rt,
             said,
             behind,
             shown(t, block, store, desk),
         ),
-        told::MAP => map(said, behind, head, table, block, store),
-        told::LOANS => loans(said, behind, s.limit, s.room, block, store),
+        told::MAP => map(rt, said, behind, head, table, block, store),
+        told::LOANS => loans(rt, said, behind, s.limit, s.room, block, store),
         _ => behind,
     }
 }
