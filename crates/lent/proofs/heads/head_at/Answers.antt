@@ -1,6 +1,5 @@
 -- `lent::heads::head_at` meets its contract. Assumes nothing.
 use Rattle.lent.proofs.LentLaws.{head_status}
-use native.Mathlib.Omega.{arith}
 use Rattle.lent.proofs.heads.head_at.Goals as goal
 
 pub status_of-status-requires : goal.status_of-status-requires
