@@ -1,8 +1,8 @@
 -- What the exported calls give, by what the calls below give. Assumes nothing.
+use Rattle.std.specs.Prelude.{Err, None, Ok, Option, Result, Some}
 use mathlib.Core.Path.{◌≡◌, refl, sym, ap, ◌∙◌}
 use mathlib.Core.Bool.{Bool, true, false}
 use mathlib.Core.List.{List, []}
-use mathlib.Core.Option.{Option}
 use Prim.Native.Nat.{ℕ, zero, suc, ◌+◌, ◌-◌, ◌≤◌, ◌<◌}
 use native.Mathlib.Omega.{arith}
 use lib.Dec.{eqb}
@@ -17,16 +17,12 @@ use Rattle.maps.specs.Maps.{Given, Is}
 use Rattle.maps.specs.Heads.{head_of as headIn}
 use Rattle.maps.specs.Good.{live, checked_done}
 use Rattle.maps.proofs.GoodLaws.{goes_on, refused_by, ready_of}
-use Rattle.maps.specs.declared.Checked.TheVariants.{Fine, Refused as Unchecked}
 use Rattle.maps.specs.declared.Head.{Head}
 use Rattle.maps.specs.declared.HeaderMap.{HeaderMap}
 use Rattle.maps.specs.declared.Place.{Place}
 use Rattle.maps.specs.declared.Field.{Field}
 use Rattle.lookups.specs.Lookups.{named, seeking, finding, slot_of, shown_status}
-use Rattle.lookups.specs.declared.Slot.TheVariants.{Nothing, Holds}
 use Rattle.lookups.proofs.HandLaws.{slot_fine, slot_wrong, status_fine}
-use Rattle.lookups.specs.declared.Found.{Found}
-use Rattle.lookups.specs.declared.Found.TheVariants.{Nth, Missing, Refused as Unfound}
 use Rattle.reader.specs.declared.Made.{Made}
 use Rattle.lent.specs.Table.{map_in, field_at, fields_from, numbers_of}
 use Rattle.lent.specs.Numbers.{head_numbers, status_of, sound_map, long_map, map_of}
@@ -49,9 +45,9 @@ module _ {A : Type 0} (answer : A → ℕ) (numbers : A → List ℕ) (map : A �
 
 -- begin
 module _ (g : Given Made) (x : Made) (n t b s : List ℕ) (i : Is g x b s) where
-  pub begun_fine : (n' : List ℕ) → x.answer ≡ Fine → n' ≡ head_numbers (headIn x.map) → Gave (begun_out n t g) 0 [] n' t b s
+  pub begun_fine : (n' : List ℕ) → x.answer ≡ Ok tt → n' ≡ head_numbers (headIn x.map) → Gave (begun_out n t g) 0 [] n' t b s
   begun_fine n' e k =
-      let a : g.result.answer ≡ Fine = ap (λ (y : Made). y.answer) (sym i.result) ∙ e in
+      let a : g.result.answer ≡ Ok tt = ap (λ (y : Made). y.answer) (sym i.result) ∙ e in
       record {
         answer = rw a;
         numbers = refl;
@@ -61,9 +57,9 @@ module _ (g : Given Made) (x : Made) (n t b s : List ℕ) (i : Is g x b s) where
         store = i.store;
       }
 
-  pub begun_refused : (e : Refusal) (r : ℕ) → x.answer ≡ Unchecked e → r ≡ number e → Gave (begun_out n t g) r [] n t b s
+  pub begun_refused : (e : Refusal) (r : ℕ) → x.answer ≡ Err e → r ≡ number e → Gave (begun_out n t g) r [] n t b s
   begun_refused e r f h =
-      let a : g.result.answer ≡ Unchecked e = ap (λ (y : Made). y.answer) (sym i.result) ∙ f in
+      let a : g.result.answer ≡ Err e = ap (λ (y : Made). y.answer) (sym i.result) ∙ f in
       record { answer = rw a h; numbers = refl; head = rw a; table = refl; block = i.block; store = i.store }
 
 module _ (o : Out) (z n t b s : List ℕ) (c : Bool) where
@@ -77,53 +73,53 @@ module _ (o : Out) (z n t b s : List ℕ) (c : Bool) where
 module _ (n t b s : List ℕ) where
   pub record Opens : Type 0 where
     pub sound : sound_map n t ≡ true
-    pub fine : Fine ≡ checked_done (map_of n t) b s
+    pub fine : Ok tt ≡ checked_done (map_of n t) b s
 
   pub open_sound : sound_map n t ≡ true → open_for n t b s ≡ checked_done (map_of n t) b s
   unfolding open_for
-  open_sound e = if_true (checked_done (map_of n t) b s) (Unchecked BadMap) e
+  open_sound e = if_true (checked_done (map_of n t) b s) (Err BadMap) e
 
-  pub open_damaged : sound_map n t ≡ false → open_for n t b s ≡ Unchecked BadMap
+  pub open_damaged : sound_map n t ≡ false → open_for n t b s ≡ Err BadMap
   unfolding open_for
-  open_damaged e = if_false (checked_done (map_of n t) b s) (Unchecked BadMap) e
+  open_damaged e = if_false (checked_done (map_of n t) b s) (Err BadMap) e
 
-  opens_by : (c : Bool) → sound_map n t ≡ c → Fine ≡ open_for n t b s → Opens
+  opens_by : (c : Bool) → sound_map n t ≡ c → Ok tt ≡ open_for n t b s → Opens
   opens_by true e f = record { sound = e; fine = f ∙ open_sound e }
-  opens_by false e f = let g : Fine ≡ Unchecked BadMap = f ∙ open_damaged e in clash (cc)
+  opens_by false e f = let g : Ok tt ≡ Err BadMap = f ∙ open_damaged e in clash (cc)
 
-  pub opens : Fine ≡ open_for n t b s → Opens
+  pub opens : Ok tt ≡ open_for n t b s → Opens
   opens f = opens_by (sound_map n t) refl f
 
   -- how many fields there are
-  pub fields_fine : (k r : ℕ) → Fine ≡ open_for n t b s → r ≡ 0 → (k' : ℕ) → k' ≡ (map_of n t).fields → Tells (fields_tell n t k b s) r k'
+  pub fields_fine : (k r : ℕ) → Ok tt ≡ open_for n t b s → r ≡ 0 → (k' : ℕ) → k' ≡ (map_of n t).fields → Tells (fields_tell n t k b s) r k'
   unfolding fields_tell
   fields_fine k r f e k' g = rw (goes_on {A = Told} (λ (x : Refusal). record { answer = number x; number = k }) (record { answer = 0; number = (map_of n t).fields }) (open_for n t b s) f) (record { answer = e; number = g })
 
-  pub fields_refused : (k r : ℕ) (x : Refusal) → Unchecked x ≡ open_for n t b s → r ≡ number x → Tells (fields_tell n t k b s) r k
+  pub fields_refused : (k r : ℕ) (x : Refusal) → Err x ≡ open_for n t b s → r ≡ number x → Tells (fields_tell n t k b s) r k
   unfolding fields_tell
   fields_refused k r x f e = rw (refused_by {A = Told} (λ (y : Refusal). record { answer = number y; number = k }) (record { answer = 0; number = (map_of n t).fields }) (open_for n t b s) x f) (record { answer = e; number = refl })
 
   -- places that are handed out
   module _ (f e : ℕ) (p : Option Place) where
-    pub lies_refused : (x : Refusal) (r : ℕ) → Unchecked x ≡ open_for n t b s → r ≡ number x → Lies (look_lies n t f e b s p) r f e
+    pub lies_refused : (x : Refusal) (r : ℕ) → Err x ≡ open_for n t b s → r ≡ number x → Lies (look_lies n t f e b s p) r f e
     unfolding look_lies
     lies_refused x r k q = rw (refused_by (λ (y : Refusal). none_lies (number y) f e) (handed_lies f e p) (open_for n t b s) x k) (record { answer = q; from = refl; to = refl })
 
-    pub lies_fine : (r f' e' : ℕ) → Fine ≡ open_for n t b s → Lies (handed_lies f e p) r f' e' → Lies (look_lies n t f e b s p) r f' e'
+    pub lies_fine : (r f' e' : ℕ) → Ok tt ≡ open_for n t b s → Lies (handed_lies f e p) r f' e' → Lies (look_lies n t f e b s p) r f' e'
     unfolding look_lies
     lies_fine r f' e' k q = rw (goes_on (λ (x : Refusal). none_lies (number x) f e) (handed_lies f e p) (open_for n t b s) k) q
 
   -- two maps
   module _ (m u : List ℕ) (both : ℕ) where
-    pub two_refused : (x : Refusal) (r : ℕ) → Unchecked x ≡ open_for n t b s → r ≡ number x → r ≡ two_tell n t b s m u both
+    pub two_refused : (x : Refusal) (r : ℕ) → Err x ≡ open_for n t b s → r ≡ number x → r ≡ two_tell n t b s m u both
     unfolding two_tell
     two_refused x r f h = h ∙ sym (refused_by number (when sound_map m u then both else 3) (open_for n t b s) x f)
 
-    pub two_second : Fine ≡ open_for n t b s → sound_map m u ≡ false → 3 ≡ two_tell n t b s m u both
+    pub two_second : Ok tt ≡ open_for n t b s → sound_map m u ≡ false → 3 ≡ two_tell n t b s m u both
     unfolding two_tell
     two_second f h = sym (goes_on number (when sound_map m u then both else 3) (open_for n t b s) f ∙ if_false both 3 h)
 
-    pub two_both : (r : ℕ) → Fine ≡ open_for n t b s → sound_map m u ≡ true → r ≡ both → r ≡ two_tell n t b s m u both
+    pub two_both : (r : ℕ) → Ok tt ≡ open_for n t b s → sound_map m u ≡ true → r ≡ both → r ≡ two_tell n t b s m u both
     unfolding two_tell
     two_both r f h q = q ∙ sym (goes_on number (when sound_map m u then both else 3) (open_for n t b s) f ∙ if_true both 3 h)
 
@@ -136,25 +132,25 @@ module _ (n t b s : List ℕ) where
     refused_in : (x : Refusal) (r : ℕ) → r ≡ number x → (g : Sight) → g ≡ record { number = k; place = none_lies (number x) f e } → Sees g r k f e
     refused_in x r q g h = rw h (record { number = refl; place = record { answer = q; from = refl; to = refl } })
 
-    sees_by : (c : Bool) → sound_map n t ≡ c → (x : Refusal) (r : ℕ) → Unchecked x ≡ open_for n t b s → r ≡ number x → Sees (find_sees n t k f e b s name from) r k f e
+    sees_by : (c : Bool) → sound_map n t ≡ c → (x : Refusal) (r : ℕ) → Err x ≡ open_for n t b s → r ≡ number x → Sees (find_sees n t k f e b s name from) r k f e
     unfolding find_sees finding
     sees_by true h x r o q =
-        let c : finding (map_of n t) b s name from ≡ Unfound x = refused_by Unfound (seeking (named b s name) from (drop from (live (map_of n t)))) (checked_done (map_of n t) b s) x (o ∙ open_sound h) in
+        let c : finding (map_of n t) b s name from ≡ Err x = refused_by Err (seeking (named b s name) from (drop from (live (map_of n t)))) (checked_done (map_of n t) b s) x (o ∙ open_sound h) in
         refused_in x r q (find_sees n t k f e b s name from) (seen h ∙ ap (seen_at (map_of n t) k f e) c)
     sees_by false h x r o q =
-        let w : Unchecked x ≡ Unchecked BadMap = o ∙ open_damaged h in
+        let w : Err x ≡ Err BadMap = o ∙ open_damaged h in
         let v : x ≡ BadMap = cc in
         refused_in x r q (find_sees n t k f e b s name from) (if_false _ _ h ∙ ap (λ (y : Refusal). record { number = k; place = none_lies (number y) f e }) (sym v))
 
-    pub sees_refused : (x : Refusal) (r : ℕ) → Unchecked x ≡ open_for n t b s → r ≡ number x → Sees (find_sees n t k f e b s name from) r k f e
+    pub sees_refused : (x : Refusal) (r : ℕ) → Err x ≡ open_for n t b s → r ≡ number x → Sees (find_sees n t k f e b s name from) r k f e
     sees_refused x r o q = sees_by (sound_map n t) refl x r o q
 
-    pub sees_fine : (found : Found) (r k' f' e' : ℕ) → Fine ≡ open_for n t b s → found ≡ seeking (named b s name) from (drop from (live (map_of n t)))
+    pub sees_fine : (found : Result (Option ℕ) Refusal) (r k' f' e' : ℕ) → Ok tt ≡ open_for n t b s → found ≡ seeking (named b s name) from (drop from (live (map_of n t)))
         → Sees (seen_at (map_of n t) k f e found) r k' f' e' → Sees (find_sees n t k f e b s name from) r k' f' e'
     unfolding finding
     sees_fine found r k' f' e' o q h =
         let w = opens o in
-        let c : finding (map_of n t) b s name from ≡ found = goes_on Unfound (seeking (named b s name) from (drop from (live (map_of n t)))) (checked_done (map_of n t) b s) w.fine ∙ sym q in
+        let c : finding (map_of n t) b s name from ≡ found = goes_on Err (seeking (named b s name) from (drop from (live (map_of n t)))) (checked_done (map_of n t) b s) w.fine ∙ sym q in
         rw (seen w.sound ∙ ap (seen_at (map_of n t) k f e) c) h
 
 pub told_damaged : (o : Told) (k : ℕ) (c : Bool) → c ≡ false → Tells (when c then o else tells_damaged k) 3 k
@@ -177,36 +173,36 @@ below_by p t n zero i e h = tt
 below_by p t n (suc k) i e h =
     let l : i < 256 = omega (arith, e, h) in
     let d : k ≡ n - (i + 1) = omega (arith, e) in
-    by_if Below (p (field_at t i)) (Nth i) (seeking p (i + 1) (fields_from t (i + 1) k)) (λ _. l) (λ _. below_by p t n k (i + 1) d h)
+    by_if Below (p (field_at t i)) (Ok (Some i)) (seeking p (i + 1) (fields_from t (i + 1) k)) (λ _. l) (λ _. below_by p t n k (i + 1) d h)
 
 pub seek_below : (p : Field → Bool) (t : List ℕ) (n i : ℕ) → n ≤ 256 → Below (seeking p i (fields_from t i (n - i)))
 seek_below p t n i h = below_by p t n (n - i) i refl h
 
 -- the field that was found
-pub found_few : (found : Found) (i : ℕ) → found ≡ Nth i → Below found → i < 256
+pub found_few : (found : Result (Option ℕ) Refusal) (i : ℕ) → found ≡ Ok (Some i) → Below found → i < 256
 found_few found i q b = rw q at b
 
-module _ (t : List ℕ) (h : Head) (k f e : ℕ) (found : Found) where
-  pub seen_found : (i : ℕ) (x : Field) (r f' e' : ℕ) → found ≡ Nth i → Below found → x ≡ field_at t i → Lies (place_lies x.value) r f' e' → Sees (seen_at (map_in t h) k f e found) r i f' e'
+module _ (t : List ℕ) (h : Head) (k f e : ℕ) (found : Result (Option ℕ) Refusal) where
+  pub seen_found : (i : ℕ) (x : Field) (r f' e' : ℕ) → found ≡ Ok (Some i) → Below found → x ≡ field_at t i → Lies (place_lies x.value) r f' e' → Sees (seen_at (map_in t h) k f e found) r i f' e'
   seen_found i x r f' e' q b w l =
       let v : Lies (place_lies (field_at t i).value) r f' e' = rw w at l in
       rw (q, fields_at t 256 i (found_few found i q b)) (record { number = refl; place = v })
 
-  pub seen_missing : found ≡ Missing → Sees (seen_at (map_in t h) k f e found) 68 k f e
+  pub seen_missing : found ≡ Ok None → Sees (seen_at (map_in t h) k f e found) 68 k f e
   seen_missing q = rw q (record { number = refl; place = record { answer = refl; from = refl; to = refl } })
 
-  pub seen_refused : (x : Refusal) (r : ℕ) → found ≡ Unfound x → r ≡ number x → Sees (seen_at (map_in t h) k f e found) r k f e
+  pub seen_refused : (x : Refusal) (r : ℕ) → found ≡ Err x → r ≡ number x → Sees (seen_at (map_in t h) k f e found) r k f e
   seen_refused x r q d = rw q (record { number = refl; place = record { answer = d; from = refl; to = refl } })
 
 -- a map whose first checks passed: its fields and its status
-module _ (n t b s : List ℕ) (o : Fine ≡ open_for n t b s) where
+module _ (n t b s : List ℕ) (o : Ok tt ≡ open_for n t b s) where
   pub few : get_or n 5 0 ≤ 256
   few = (ready_of _ (map_of n t) b s (opens n t b s o).fine).few
 
-  pub slot_there : (i : ℕ) → i < get_or n 5 0 → slot_of (map_of n t) b s i ≡ Holds (field_at t i)
-  slot_there i h = let l : i < 256 = omega (arith, h, few) in slot_fine (map_of n t) b s i (opens n t b s o).fine h ∙ ap Holds (fields_at t 256 i l)
+  pub slot_there : (i : ℕ) → i < get_or n 5 0 → slot_of (map_of n t) b s i ≡ Some (field_at t i)
+  slot_there i h = let l : i < 256 = omega (arith, h, few) in slot_fine (map_of n t) b s i (opens n t b s o).fine h ∙ ap Some (fields_at t 256 i l)
 
-  pub slot_none : (i : ℕ) → get_or n 5 0 ≤ i → slot_of (map_of n t) b s i ≡ Nothing
+  pub slot_none : (i : ℕ) → get_or n 5 0 ≤ i → slot_of (map_of n t) b s i ≡ None
   slot_none i h = slot_wrong (map_of n t) b s i (opens n t b s o).fine h
 
   pub status_there : shown_status (map_of n t) b s ≡ status_of (get_or n 6 0) (get_or n 7 0) (get_or n 8 0)

@@ -1,4 +1,6 @@
 -- What the walker's exported calls give, by what the calls below give. Assumes nothing.
+use Rattle.leaves.specs.declared.refusals.Refusal.{Refusal}
+use Rattle.std.specs.Prelude.{Err, Ok, Result}
 use mathlib.Core.Path.{◌≡◌, refl, sym, ap, ◌∙◌}
 use mathlib.Core.Bool.{Bool, true, false, ◌&&◌}
 use mathlib.Core.List.{List, []}
@@ -13,7 +15,7 @@ use Rattle.maps.specs.declared.Head.{Head}
 use Rattle.walker.specs.Answers.{start_answer}
 use Rattle.walker.specs.Trails.{walker_of}
 use Rattle.walker.specs.declared.Step.{Step}
-use Rattle.walker.specs.declared.Step.TheVariants.{More, Record, Body, End, Refused as Unwalked}
+use Rattle.walker.specs.declared.Step.TheVariants.{More, Record, Body, End}
 use Rattle.walker.specs.declared.Trail.{Trail}
 use Rattle.walker.specs.declared.Walker.{Walker}
 use Rattle.walker.specs.declared.Walked.{Walked}
@@ -33,19 +35,19 @@ went numbers g x r h v w n t b s i e f k j l =
       trail = j ∙ ap trail_in (sym f) ∙ ap (λ (y : Walked). trail_in y.walker) i.result;
     }
 
-goes : (x : Step) (old new : List ℕ) → start_answer x ≡ 0 → new ≡ started x old new
-goes More old new h = refl
-goes (Record a b c d) old new h = refl
-goes Body old new h = refl
-goes End old new h = refl
-goes (Unwalked e) old new h = absurd (omega (arith, number_low e))
+goes : (x : Result Step Refusal) (old new : List ℕ) → start_answer x ≡ 0 → new ≡ started x old new
+goes (Ok More) old new h = refl
+goes (Ok (Record a b c d)) old new h = refl
+goes (Ok Body) old new h = refl
+goes (Ok End) old new h = refl
+goes (Err e) old new h = absurd (omega (arith, number_low e))
 
-stays : (x : Step) (old new : List ℕ) → (start_answer x ≡ 0 → ⊥) → old ≡ started x old new
-stays More old new h = absurd (h refl)
-stays (Record a b c d) old new h = absurd (h refl)
-stays Body old new h = absurd (h refl)
-stays End old new h = absurd (h refl)
-stays (Unwalked e) old new h = refl
+stays : (x : Result Step Refusal) (old new : List ℕ) → (start_answer x ≡ 0 → ⊥) → old ≡ started x old new
+stays (Ok More) old new h = absurd (h refl)
+stays (Ok (Record a b c d)) old new h = absurd (h refl)
+stays (Ok Body) old new h = absurd (h refl)
+stays (Ok End) old new h = absurd (h refl)
+stays (Err e) old new h = refl
 
 -- start
 module _ (g : Given Walked) (x : Walked) (w n t b s : List ℕ) (i : Is g x b s) where

@@ -1,6 +1,6 @@
 -- What each exported call gives, for every input: numbers that are no map's are number 3 and stay. Assumes nothing.
-use Rattle.std.specs.Prelude.{◌≡◌, Bool, ◌&&◌, List, [], ◌∷◌, ℕ, ◌+◌, ◌<◌, eqb, length, set, get_or}
-use Rattle.std.proofs.Math.Option.{Option, none, some}
+use Rattle.leaves.specs.declared.refusals.Refusal.{Refusal}
+use Rattle.std.specs.Prelude.{◌≡◌, Bool, ◌&&◌, List, [], ◌∷◌, ℕ, ◌+◌, ◌<◌, eqb, length, set, get_or, Err, None, Ok, Option, Result, Some, ⊤}
 use Rattle.leaves.specs.Choice.{when◌then◌else◌}
 use Rattle.leaves.specs.Refusals.{number, refusal}
 use Rattle.leaves.specs.Numbers.{done, missing, yes, other, in_the_block, in_the_store}
@@ -10,34 +10,22 @@ use Rattle.maps.specs.Places.{at, in_block, in_store, no_field}
 use Rattle.maps.specs.declared.HeaderMap.{HeaderMap}
 use Rattle.maps.specs.declared.Place.{Place}
 use Rattle.maps.specs.declared.Place.TheVariants.{Block, Store}
-use Rattle.maps.specs.declared.Checked.{Checked}
-use Rattle.maps.specs.declared.Checked.TheVariants.{Fine, Refused as Unchecked}
 use Rattle.reader.specs.Calls.{beginning, feeding, finishing, clearing}
 use Rattle.reader.specs.declared.Fed.{Fed}
 use Rattle.reader.specs.declared.Made.{Made}
 use Rattle.edits.specs.Edits.{setting, appending, removing, statusing}
 use Rattle.edits.specs.declared.Edited.{Edited}
 use Rattle.lookups.specs.Lookups.{finding, value_place, key_place, status_place}
-use Rattle.lookups.specs.declared.Found.{Found}
-use Rattle.lookups.specs.declared.Found.TheVariants.{Nth, Missing, Refused as Unfound}
 use Rattle.writes.specs.Written.{writing, rebuilding, Writing}
-use Rattle.writes.specs.declared.Wrote.{Wrote}
-use Rattle.writes.specs.declared.Wrote.TheVariants.{Count, Refused as Unwritten}
 use Rattle.codes.specs.Codes.{coding, length_of as lengthIn, kind_of as kindIn}
 use Rattle.codes.specs.Line.{reason_start}
-use Rattle.codes.specs.declared.line.Code.{Code}
-use Rattle.codes.specs.declared.line.Code.TheVariants.{Known as CodeIs, None as NoCode, Refused as Uncoded}
-use Rattle.codes.specs.declared.Length.{Length}
-use Rattle.codes.specs.declared.Length.TheVariants.{Known as LengthIs, Missing as NoLength, Refused as Unmeasured}
-use Rattle.codes.specs.declared.Kind.{Kind}
-use Rattle.codes.specs.declared.Kind.TheVariants.{Known as KindIs, Refused as Untyped}
 use Rattle.tidy.specs.Calls.{cleaning, tidying}
 use Rattle.grammar.specs.Walk.{grammatical}
 use Rattle.equals.specs.Equal.{comparing}
 use Rattle.resume.specs.Resume.{resuming}
 use Rattle.walker.specs.Walk.{starting, walking, ending}
 use Rattle.walker.specs.declared.Step.{Step}
-use Rattle.walker.specs.declared.Step.TheVariants.{More, Record, Body, End, Refused as Unwalked}
+use Rattle.walker.specs.declared.Step.TheVariants.{More, Record, Body, End}
 use Rattle.walker.specs.declared.Walked.{Walked}
 use Rattle.walker.specs.declared.Walker.{Walker}
 use Rattle.maps.specs.Heads.{head_of as headIn, unmade_head}
@@ -112,9 +100,9 @@ abbrev pub edit_map : Edited → HeaderMap
 edit_map r = r.map
 
 -- begin takes whatever numbers there are, if they are as many as a map's; refused, they stay
-abbrev pub begun : Checked → List ℕ → HeaderMap → List ℕ
-begun Fine old new = head_numbers (headIn new)
-begun (Unchecked e) old new = old
+abbrev pub begun : Result ⊤ Refusal → List ℕ → HeaderMap → List ℕ
+begun (Ok tt) old new = head_numbers (headIn new)
+begun (Err e) old new = old
 
 abbrev pub begun_out : List ℕ → List ℕ → Given Made → Out
 begun_out n t g =
@@ -176,12 +164,12 @@ abbrev pub walked_map : Walked → HeaderMap
 walked_map r = r.walker.map
 
 -- a record begun: its start, its body's offset, its length and its type are written over the four numbers lent
-abbrev pub record_numbers : Step → List ℕ → List ℕ
-record_numbers More r = r
-record_numbers (Record a b c d) r = set (set (set (set r 0 a) 1 b) 2 c) 3 d
-record_numbers Body r = r
-record_numbers End r = r
-record_numbers (Unwalked e) r = r
+abbrev pub record_numbers : Result Step Refusal → List ℕ → List ℕ
+record_numbers (Ok More) r = r
+record_numbers (Ok (Record a b c d)) r = set (set (set (set r 0 a) 1 b) 2 c) 3 d
+record_numbers (Ok Body) r = r
+record_numbers (Ok End) r = r
+record_numbers (Err e) r = r
 
 abbrev pub walked_numbers : List ℕ → Walked → List ℕ
 walked_numbers r w = w.taken ∷ record_numbers w.step r
@@ -193,12 +181,12 @@ abbrev pub lost : List ℕ → List ℕ → List ℕ → List ℕ → List ℕ �
 lost numbers w n t b s = record { out = damaged numbers n t b s; trail = w }
 
 -- start takes whatever numbers there are, if they are as many as a walker's; refused, they stay
-abbrev pub started : Step → List ℕ → List ℕ → List ℕ
-started More old new = new
-started (Record a b c d) old new = new
-started Body old new = new
-started End old new = new
-started (Unwalked e) old new = old
+abbrev pub started : Result Step Refusal → List ℕ → List ℕ → List ℕ
+started (Ok More) old new = new
+started (Ok (Record a b c d)) old new = new
+started (Ok Body) old new = new
+started (Ok End) old new = new
+started (Err e) old new = old
 
 abbrev pub started_out : List ℕ → List ℕ → List ℕ → Given Walked → Went
 started_out w n t g =
@@ -227,8 +215,8 @@ unfoldable pub end_gives : List ℕ → List ℕ → List ℕ → List ℕ → L
 end_gives w n t b s = when sound_trail w && sound_map n t then went_of no_numbers (ending (walker_of w n t) b s) else lost [] w n t b s
 
 -- the first checks of a call that only looks: 3 for numbers that are no map's too
-unfoldable pub open_for : List ℕ → List ℕ → List ℕ → List ℕ → Checked
-open_for n t b s = when sound_map n t then checked_done (map_of n t) b s else Unchecked (refusal 3)
+unfoldable pub open_for : List ℕ → List ℕ → List ℕ → List ℕ → Result ⊤ Refusal
+open_for n t b s = when sound_map n t then checked_done (map_of n t) b s else Err (refusal 3)
 
 -- what a call that only looks gives: its answer, and the number that it hands out, which was k before
 pub record Told : Type 0 where
@@ -242,23 +230,23 @@ pub record Tells (o : Told) (r k : ℕ) : Type 0 where
 abbrev pub tells_damaged : ℕ → Told
 tells_damaged k = record { answer = 3; number = k }
 
-abbrev pub code_number : Code → ℕ → ℕ
-code_number (CodeIs c) k = c
-code_number NoCode k = k
-code_number (Uncoded e) k = k
+abbrev pub code_number : Result (Option ℕ) Refusal → ℕ → ℕ
+code_number (Ok (Some c)) k = c
+code_number (Ok None) k = k
+code_number (Err e) k = k
 
-abbrev pub length_number : Length → ℕ → ℕ
-length_number (LengthIs l) k = l
-length_number NoLength k = k
-length_number (Unmeasured e) k = k
+abbrev pub length_number : Result (Option ℕ) Refusal → ℕ → ℕ
+length_number (Ok (Some l)) k = l
+length_number (Ok None) k = k
+length_number (Err e) k = k
 
-abbrev pub kind_number : Kind → ℕ → ℕ
-kind_number (KindIs c) k = c
-kind_number (Untyped e) k = k
+abbrev pub kind_number : Result ℕ Refusal → ℕ → ℕ
+kind_number (Ok c) k = c
+kind_number (Err e) k = k
 
-abbrev pub count_number : Wrote → ℕ → ℕ
-count_number (Count c) k = c
-count_number (Unwritten e) k = k
+abbrev pub count_number : Result ℕ Refusal → ℕ → ℕ
+count_number (Ok c) k = c
+count_number (Err e) k = k
 
 -- how many fields there are: the table's first numbers are then the places of all of them
 unfoldable pub fields_tell : List ℕ → List ℕ → ℕ → List ℕ → List ℕ → Told
@@ -314,8 +302,8 @@ abbrev pub none_lies : ℕ → ℕ → ℕ → Lying
 none_lies r f e = record { answer = r; from = f; to = e }
 
 abbrev pub handed_lies : ℕ → ℕ → Option Place → Lying
-handed_lies f e none = none_lies missing f e
-handed_lies f e (some p) = place_lies p
+handed_lies f e None = none_lies missing f e
+handed_lies f e (Some p) = place_lies p
 
 -- a refusal is told, where the lookups hand out an empty part
 unfoldable pub look_lies : List ℕ → List ℕ → ℕ → ℕ → List ℕ → List ℕ → Option Place → Lying
@@ -336,12 +324,12 @@ shifted k (Block a e) = in_block (a.0 + k) e.0
 shifted k (Store a e) = in_store (a.0 + k) e.0
 
 abbrev pub reason_from : Place → Option ℕ → Option Place
-reason_from p none = none
-reason_from p (some k) = some (shifted k p)
+reason_from p None = None
+reason_from p (Some k) = Some (shifted k p)
 
 abbrev pub reason_of : List ℕ → List ℕ → Option Place → Option Place
-reason_of b s none = none
-reason_of b s (some p) = reason_from p (reason_start (at b s p))
+reason_of b s None = None
+reason_of b s (Some p) = reason_from p (reason_start (at b s p))
 
 abbrev pub reason_lies : List ℕ → List ℕ → ℕ → ℕ → List ℕ → List ℕ → Lying
 reason_lies n t f e b s = look_lies n t f e b s (reason_of b s (status_place (map_of n t) b s))
@@ -356,15 +344,15 @@ pub record Sees (o : Sight) (r k f e : ℕ) : Type 0 where
   pub place : Lies o.place r f e
 
 -- a field that a table has
-abbrev pub Below : Found → Type 0
-Below (Nth i) = i < 256
-Below Missing = Unit {0}
-Below (Unfound x) = Unit {0}
+abbrev pub Below : Result (Option ℕ) Refusal → Type 0
+Below (Ok (Some i)) = i < 256
+Below (Ok None) = Unit {0}
+Below (Err x) = Unit {0}
 
-abbrev pub seen_at : HeaderMap → ℕ → ℕ → ℕ → Found → Sight
-seen_at m k f e (Nth i) = record { number = i; place = place_lies (get_or m.table i no_field).value }
-seen_at m k f e Missing = record { number = k; place = none_lies missing f e }
-seen_at m k f e (Unfound x) = record { number = k; place = none_lies (number x) f e }
+abbrev pub seen_at : HeaderMap → ℕ → ℕ → ℕ → Result (Option ℕ) Refusal → Sight
+seen_at m k f e (Ok (Some i)) = record { number = i; place = place_lies (get_or m.table i no_field).value }
+seen_at m k f e (Ok None) = record { number = k; place = none_lies missing f e }
+seen_at m k f e (Err x) = record { number = k; place = none_lies (number x) f e }
 
 unfoldable pub find_sees : List ℕ → List ℕ → ℕ → ℕ → ℕ → List ℕ → List ℕ → List ℕ → ℕ → Sight
 find_sees n t k f e b s name from =

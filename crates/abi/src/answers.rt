@@ -11,18 +11,11 @@ ghost use Rattle.codes.specs.Answers.{code_answer as code_of, length_answer as l
 ghost use Rattle.walker.specs.Answers.{told as step_of, start_answer};
 ghost use Rattle.resume.specs.Answers.{told as verdictOf};
 
-use codes::line::Code;
-use codes::{Kind, Length};
-use edits::Edit;
-use equals::Equal;
 use leaves::refusals;
 use leaves::refusals::Refusal;
 use line_reader::Answer;
-use maps::Checked;
 use resume::Verdict;
-use tidy::Test;
 use walker::Step;
-use writes::Wrote;
 
 pub const DONE: u32 = 0;
 
@@ -46,126 +39,126 @@ pub fn refused(e: Refusal) -> u32
     n as u32
 }
 
-pub fn checked(c: Checked) -> u32
+pub fn checked(c: Result<(), Refusal>) -> u32
     ensures { result ≡ checkedOf c }
 {
     match c {
-        Checked::Fine => 0,
-        Checked::Refused(e) => refused(e),
+        Ok(()) => 0,
+        Err(e) => refused(e),
     }
 }
 
-pub fn read(a: Answer) -> u32
+pub fn read(a: Result<Answer, Refusal>) -> u32
     ensures { result ≡ answer_of a }
 {
     match a {
-        Answer::More => 64,
-        Answer::Blank => 65,
-        Answer::Input => 66,
-        Answer::Refused(e) => refused(e),
+        Ok(Answer::More) => 64,
+        Ok(Answer::Blank) => 65,
+        Ok(Answer::Input) => 66,
+        Err(e) => refused(e),
     }
 }
 
-pub fn edited(e: Edit) -> u32
+pub fn edited(e: Result<(), Refusal>) -> u32
     ensures { result ≡ editOf e }
 {
     match e {
-        Edit::Done => 0,
-        Edit::Refused(x) => refused(x),
+        Ok(()) => 0,
+        Err(x) => refused(x),
     }
 }
 
-pub fn wrote(w: Wrote) -> u32
+pub fn wrote(w: Result<usize, Refusal>) -> u32
     ensures { result ≡ wroteOf w }
 {
     match w {
-        Wrote::Count(n) => 0,
-        Wrote::Refused(e) => refused(e),
+        Ok(n) => 0,
+        Err(e) => refused(e),
     }
 }
 
-pub fn compared(e: Equal) -> u32
+pub fn compared(e: Result<bool, Refusal>) -> u32
     ensures { result ≡ equal_of e }
 {
     match e {
-        Equal::Yes => 69,
-        Equal::No => 70,
-        Equal::Refused(x) => refused(x),
+        Ok(true) => 69,
+        Ok(false) => 70,
+        Err(x) => refused(x),
     }
 }
 
-pub fn tested(t: Test) -> u32
+pub fn tested(t: Result<bool, Refusal>) -> u32
     ensures { result ≡ test_of t }
 {
     match t {
-        Test::Yes => 69,
-        Test::No => 70,
-        Test::Refused(x) => refused(x),
+        Ok(true) => 69,
+        Ok(false) => 70,
+        Err(x) => refused(x),
     }
 }
 
-pub fn coded(c: Code) -> u32
+pub fn coded(c: Result<Option<u16>, Refusal>) -> u32
     ensures { result ≡ code_of c }
 {
     match c {
-        Code::Known(n) => 67,
-        Code::None => 68,
-        Code::Refused(x) => refused(x),
+        Ok(Some(n)) => 67,
+        Ok(None) => 68,
+        Err(x) => refused(x),
     }
 }
 
-pub fn measured(l: Length) -> u32
+pub fn measured(l: Result<Option<u64>, Refusal>) -> u32
     ensures { result ≡ length_of l }
 {
     match l {
-        Length::Known(n) => 67,
-        Length::Missing => 68,
-        Length::Refused(x) => refused(x),
+        Ok(Some(n)) => 67,
+        Ok(None) => 68,
+        Err(x) => refused(x),
     }
 }
 
-pub fn typed(k: Kind) -> u32
+pub fn typed(k: Result<u16, Refusal>) -> u32
     ensures { result ≡ kind_of k }
 {
     match k {
-        Kind::Known(n) => 67,
-        Kind::Refused(x) => refused(x),
+        Ok(n) => 67,
+        Err(x) => refused(x),
     }
 }
 
-pub fn walked(s: Step) -> u32
+pub fn walked(s: Result<Step, Refusal>) -> u32
     ensures { result ≡ step_of s }
 {
     match s {
-        Step::More => 64,
-        Step::Record(a, b, c, d) => 73,
-        Step::Body => 74,
-        Step::End => 75,
-        Step::Refused(e) => refused(e),
+        Ok(Step::More) => 64,
+        Ok(Step::Record(a, b, c, d)) => 73,
+        Ok(Step::Body) => 74,
+        Ok(Step::End) => 75,
+        Err(e) => refused(e),
     }
 }
 
 // A walker's start answers 0 or a refusal.
-pub fn started(s: Step) -> u32
+pub fn started(s: Result<Step, Refusal>) -> u32
     ensures { result ≡ start_answer s }
 {
     match s {
-        Step::More => 0,
-        Step::Record(a, b, c, d) => 0,
-        Step::Body => 0,
-        Step::End => 0,
-        Step::Refused(e) => refused(e),
+        Ok(Step::More) => 0,
+        Ok(Step::Record(a, b, c, d)) => 0,
+        Ok(Step::Body) => 0,
+        Ok(Step::End) => 0,
+        Err(e) => refused(e),
     }
 }
 
-pub fn judged(v: Verdict) -> u32
+pub fn judged(v: Result<Verdict, Refusal>) -> u32
     ensures { result ≡ verdictOf v }
 {
     match v {
-        Verdict::Append => 80,
-        Verdict::NoTag => 81,
-        Verdict::Differ => 82,
-        Verdict::NotPartial => 83,
-        Verdict::Refused(e) => refused(e),
+        Ok(Verdict::Append) => 80,
+        Ok(Verdict::NoTag) => 81,
+        Ok(Verdict::Differ) => 82,
+        Ok(Verdict::NotPartial) => 83,
+        Err(e) => refused(e),
     }
 }

@@ -1,16 +1,14 @@
 // Find, value, key, status and reason; how many fields there are.
 ghost use Rattle.std.specs.Prelude.{◌≡◌, length, ◌≤◌};
-ghost use Rattle.std.proofs.Math.Option.{some};
 ghost use Rattle.lent.specs.Table.{map_in};
 ghost use Rattle.lookups.specs.Lookups.{status_in};
 ghost use Rattle.abi.specs.Calls.{Tells, fields_tell, Below, Sees, seen_at, find_sees, Lies, place_lies, handed_lies, value_lies, key_lies, status_lies, shifted, reason_of, reason_lies};
 
+use leaves::refusals::Refusal;
 use crate::{answers, opening};
 use codes::line;
-use codes::line::Start;
 use lent::{heads, tables};
-use lookups::Found;
-use maps::{Checked, Head, Place, Status};
+use maps::{Head, Place};
 
 // How many fields there are: the table's first numbers are then the places of all of them.
 pub fn bisquecrow_fields(
@@ -23,11 +21,11 @@ pub fn bisquecrow_fields(
     ensures { Tells (fields_tell head.now table.now count.old block.now store.now) result count.new }
 {
     match opening::open(head, table, block, store) {
-        Checked::Fine => {
+        Ok(()) => {
             *count = head[5];
             answers::DONE
         }
-        Checked::Refused(e) => answers::refused(e),
+        Err(e) => answers::refused(e),
     }
 }
 
@@ -51,7 +49,7 @@ fn put_place(p: Place, from: &mut u64, to: &mut u64) -> u32
 
 // Hands out the number of a field that was found, and its value's place.
 fn put_found(
-    found: Found,
+    found: Result<Option<usize>, Refusal>,
     h: Head,
     table: &[u32],
     number: &mut u64,
@@ -62,14 +60,14 @@ fn put_found(
     ensures { Sees (seen_at (map_in table.now h) number.old from.old to.old found) result number.new from.new to.new }
 {
     match found {
-        Found::Nth(i) => {
+        Ok(Some(i)) => {
             *number = i as u64;
             let f = tables::field_at(table, i);
             let p = f.value;
             put_place(p, from, to)
         }
-        Found::Missing => answers::MISSING,
-        Found::Refused(e) => answers::refused(e),
+        Ok(None) => answers::MISSING,
+        Err(e) => answers::refused(e),
     }
 }
 
@@ -88,12 +86,12 @@ pub fn bisquecrow_find<'a>(
     ensures { Sees (find_sees head.now table.now number.old from.old to.old block.now store.now name.now start) result number.new from.new to.new }
 {
     match opening::open(head, table, block, store) {
-        Checked::Fine => {
+        Ok(()) => {
             let h = heads::head_at(head);
             let found = tables::find(table, h.fields, block, store, name, start);
             put_found(found, h, table, number, from, to)
         }
-        Checked::Refused(e) => answers::refused(e),
+        Err(e) => answers::refused(e),
     }
 }
 
@@ -110,7 +108,7 @@ pub fn bisquecrow_value(
     ensures { Lies (value_lies head.now table.now from.old to.old block.now store.now number) result from.new to.new }
 {
     match opening::open(head, table, block, store) {
-        Checked::Fine => {
+        Ok(()) => {
             if (number as u64) < head[5] {
                 let f = tables::field_at(table, number);
                 let p = f.value;
@@ -118,7 +116,7 @@ pub fn bisquecrow_value(
             }
             answers::MISSING
         }
-        Checked::Refused(e) => answers::refused(e),
+        Err(e) => answers::refused(e),
     }
 }
 
@@ -135,7 +133,7 @@ pub fn bisquecrow_key(
     ensures { Lies (key_lies head.now table.now from.old to.old block.now store.now number) result from.new to.new }
 {
     match opening::open(head, table, block, store) {
-        Checked::Fine => {
+        Ok(()) => {
             if (number as u64) < head[5] {
                 let f = tables::field_at(table, number);
                 let p = f.key;
@@ -143,16 +141,16 @@ pub fn bisquecrow_key(
             }
             answers::MISSING
         }
-        Checked::Refused(e) => answers::refused(e),
+        Err(e) => answers::refused(e),
     }
 }
 
-fn put_status(s: Status, from: &mut u64, to: &mut u64) -> u32
+fn put_status(s: Option<Place>, from: &mut u64, to: &mut u64) -> u32
     ensures { Lies (handed_lies from.old to.old (status_in s)) result from.new to.new }
 {
     match s {
-        Status::Absent => answers::MISSING,
-        Status::At(p) => put_place(p, from, to),
+        None => answers::MISSING,
+        Some(p) => put_place(p, from, to),
     }
 }
 
@@ -168,12 +166,12 @@ pub fn bisquecrow_status(
     ensures { Lies (status_lies head.now table.now from.old to.old block.now store.now) result from.new to.new }
 {
     match opening::open(head, table, block, store) {
-        Checked::Fine => {
+        Ok(()) => {
             let h = heads::head_at(head);
             let s = h.status;
             put_status(s, from, to)
         }
-        Checked::Refused(e) => answers::refused(e),
+        Err(e) => answers::refused(e),
     }
 }
 
@@ -197,12 +195,12 @@ fn put_rest(p: Place, k: usize, from: &mut u64, to: &mut u64) -> u32
 }
 
 fn put_reason<'a>(p: Place, block: &'a [u8], store: &'a [u8], from: &mut u64, to: &mut u64) -> u32
-    ensures { Lies (handed_lies from.old to.old (reason_of block.now store.now (some p))) result from.new to.new }
+    ensures { Lies (handed_lies from.old to.old (reason_of block.now store.now (Some p))) result from.new to.new }
 {
     let text = maps::part(block, store, p);
     match line::reason_start(text) {
-        Start::Begins(k) => put_rest(p, k, from, to),
-        Start::None => answers::MISSING,
+        Some(k) => put_rest(p, k, from, to),
+        None => answers::MISSING,
     }
 }
 
@@ -218,14 +216,14 @@ pub fn bisquecrow_reason<'a>(
     ensures { Lies (reason_lies head.now table.now from.old to.old block.now store.now) result from.new to.new }
 {
     match opening::open(head, table, block, store) {
-        Checked::Fine => {
+        Ok(()) => {
             let h = heads::head_at(head);
             let s = h.status;
             match s {
-                Status::Absent => answers::MISSING,
-                Status::At(p) => put_reason(p, block, store, from, to),
+                None => answers::MISSING,
+                Some(p) => put_reason(p, block, store, from, to),
             }
         }
-        Checked::Refused(e) => answers::refused(e),
+        Err(e) => answers::refused(e),
     }
 }

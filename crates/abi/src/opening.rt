@@ -4,15 +4,14 @@ ghost use Rattle.abi.specs.Calls.{open_for};
 
 use leaves::refusals::Refusal;
 use lent::heads;
-use maps::Checked;
 
 // 3, 2 and 7; 3 for numbers that are no map's too.
-pub fn open(head: &[u64], table: &[u32], block: &[u8], store: &[u8]) -> Checked
+pub fn open(head: &[u64], table: &[u32], block: &[u8], store: &[u8]) -> Result<(), Refusal>
     ensures { result ≡ open_for head.now table.now block.now store.now }
 {
     if lent::is_sound(head, table) {
         let h = heads::head_at(head);
         return lent::check_done(h, table, block, store);
     }
-    Checked::Refused(Refusal::BadMap)
+    Err(Refusal::BadMap)
 }

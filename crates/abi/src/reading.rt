@@ -4,7 +4,6 @@ ghost use Rattle.abi.specs.Calls.{Gave, begin_gives, feed_gives, finish_gives, c
 
 use crate::answers;
 use lent::heads;
-use maps::Checked;
 
 // Makes the numbers an empty map that is Reading, whatever they were; refused, they stay.
 pub fn bisquecrow_begin(
@@ -25,11 +24,11 @@ pub fn bisquecrow_begin(
         let new = made.head;
         let answer = made.answer;
         match answer {
-            Checked::Fine => {
+            Ok(()) => {
                 heads::put_head(head, new);
                 return answers::DONE;
             }
-            Checked::Refused(e) => {
+            Err(e) => {
                 return answers::refused(e);
             }
         }

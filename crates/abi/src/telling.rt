@@ -2,21 +2,19 @@
 ghost use Rattle.std.specs.Prelude.{◌≡◌};
 ghost use Rattle.abi.specs.Calls.{Tells, code_number, length_number, kind_number, code_tells, length_tells, kind_tells, clean_tells, tidy_tells, grammar_tells, equal_tells, resume_tells};
 
+use leaves::refusals::Refusal;
 use crate::{answers, opening};
-use codes::line::Code;
-use codes::{Kind, Length};
 use lent::heads;
-use maps::Checked;
 
-fn put_code(c: Code, code: &mut u64)
+fn put_code(c: Result<Option<u16>, Refusal>, code: &mut u64)
     ensures { code.new ≡ code_number c code.old }
 {
     match c {
-        Code::Known(n) => {
+        Ok(Some(n)) => {
             *code = n as u64;
         }
-        Code::None => {}
-        Code::Refused(e) => {}
+        Ok(None) => {}
+        Err(e) => {}
     }
 }
 
@@ -39,15 +37,15 @@ pub fn bisquecrow_status_code<'a>(
     answers::DAMAGED
 }
 
-fn put_length(l: Length, length: &mut u64)
+fn put_length(l: Result<Option<u64>, Refusal>, length: &mut u64)
     ensures { length.new ≡ length_number l length.old }
 {
     match l {
-        Length::Known(n) => {
+        Ok(Some(n)) => {
             *length = n;
         }
-        Length::Missing => {}
-        Length::Refused(e) => {}
+        Ok(None) => {}
+        Err(e) => {}
     }
 }
 
@@ -70,14 +68,14 @@ pub fn bisquecrow_content_length<'a>(
     answers::DAMAGED
 }
 
-fn put_type(k: Kind, code: &mut u64)
+fn put_type(k: Result<u16, Refusal>, code: &mut u64)
     ensures { code.new ≡ kind_number k code.old }
 {
     match k {
-        Kind::Known(n) => {
+        Ok(n) => {
             *code = n as u64;
         }
-        Kind::Refused(e) => {}
+        Err(e) => {}
     }
 }
 
@@ -144,7 +142,7 @@ pub fn bisquecrow_equal<'a>(
     ensures { result ≡ equal_tells head.now table.now block.now store.now head2.now table2.now block2.now store2.now }
 {
     match opening::open(head, table, block, store) {
-        Checked::Fine => {
+        Ok(()) => {
             if lent::is_sound(head2, table2) {
                 let one = lent::live_at(head, table);
                 let two = lent::live_at(head2, table2);
@@ -153,7 +151,7 @@ pub fn bisquecrow_equal<'a>(
             }
             answers::DAMAGED
         }
-        Checked::Refused(e) => answers::refused(e),
+        Err(e) => answers::refused(e),
     }
 }
 
@@ -171,7 +169,7 @@ pub fn bisquecrow_resume<'a>(
     ensures { result ≡ resume_tells head.now table.now block.now store.now head2.now table2.now block2.now store2.now }
 {
     match opening::open(head, table, block, store) {
-        Checked::Fine => {
+        Ok(()) => {
             if lent::is_sound(head2, table2) {
                 let one = lent::live_at(head, table);
                 let two = lent::live_at(head2, table2);
@@ -180,6 +178,6 @@ pub fn bisquecrow_resume<'a>(
             }
             answers::DAMAGED
         }
-        Checked::Refused(e) => answers::refused(e),
+        Err(e) => answers::refused(e),
     }
 }

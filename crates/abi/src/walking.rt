@@ -2,6 +2,7 @@
 ghost use Rattle.std.specs.Prelude.{◌≡◌, [], ◌∷◌};
 ghost use Rattle.abi.specs.Calls.{Goes, record_numbers, walker_gives, walk_gives, end_gives};
 
+use leaves::refusals::Refusal;
 use crate::answers;
 use lent::heads;
 use walker::Step;
@@ -38,20 +39,20 @@ pub fn bisquecrow_walker(
     answers::DAMAGED
 }
 
-fn put_record(step: Step, record: &mut [u64; 4])
+fn put_record(step: Result<Step, Refusal>, record: &mut [u64; 4])
     ensures { «record».new ≡ record_numbers step «record».old }
 {
     match step {
-        Step::More => {}
-        Step::Record(start, offset, length, code) => {
+        Ok(Step::More) => {}
+        Ok(Step::Record(start, offset, length, code)) => {
             record[0] = start;
             record[1] = offset;
             record[2] = length;
             record[3] = code as u64;
         }
-        Step::Body => {}
-        Step::End => {}
-        Step::Refused(e) => {}
+        Ok(Step::Body) => {}
+        Ok(Step::End) => {}
+        Err(e) => {}
     }
 }
 

@@ -2,18 +2,18 @@
 ghost use Rattle.std.specs.Prelude.{◌≡◌};
 ghost use Rattle.abi.specs.Calls.{Puts, count_number, write_puts, rebuild_puts};
 
+use leaves::refusals::Refusal;
 use crate::answers;
 use lent::heads;
-use writes::Wrote;
 
-fn put_count(w: Wrote, count: &mut u64)
+fn put_count(w: Result<usize, Refusal>, count: &mut u64)
     ensures { count.new ≡ count_number w count.old }
 {
     match w {
-        Wrote::Count(n) => {
+        Ok(n) => {
             *count = n as u64;
         }
-        Wrote::Refused(e) => {}
+        Err(e) => {}
     }
 }
 

@@ -1,8 +1,9 @@
 -- Laws of the code and the reason of a status line's text. Assumes nothing.
+use Rattle.leaves.specs.declared.refusals.Refusal.{Refusal}
+use Rattle.std.specs.Prelude.{None, Ok, Option, Result, Some}
 use mathlib.Core.Path.{◌≡◌, refl, ap, ◌∙◌}
 use mathlib.Core.Bool.{Bool, true, false}
 use mathlib.Core.List.{List, [], ◌∷◌}
-use mathlib.Core.Option.{Option, none, some}
 use Prim.Native.Nat.{ℕ, ◌+◌, ◌-◌, ◌≤◌, ◌<◌, min}
 use native.Mathlib.Omega.{arith}
 use borrow.Author.Tests.{lt-ltb, le-ltb, ltb-true, ltb-false, le-leb, lt-leb, eq-eqb, ne_eqb}
@@ -14,9 +15,6 @@ use Rattle.leaves.specs.Number.{decimal, is_decimal, content_length}
 use Rattle.leaves.specs.Octets.{octets, before, same_list}
 use Rattle.leaves.proofs.NameLaws.{apart}
 use Rattle.leaves.proofs.PasteLaws.{tail_all}
-use Rattle.codes.specs.declared.line.Code.{Code}
-use Rattle.codes.specs.declared.line.Code.TheVariants.{None}
-use Rattle.codes.specs.declared.line.Start.TheVariants.{Begins, None as NoStart}
 use Rattle.codes.specs.Line.{is_http, behind_space, thence, until_space, without_plus, small_number, status_code, reason_start}
 use Rattle.codes.specs.Told.{code_told, start_told}
 
@@ -29,26 +27,26 @@ unfolding is_http
 http_is s t e = e
 
 -- what an answer tells
-pub told_at : (o : Option ℕ) (k : ℕ) → start_told o ≡ Begins k → o ≡ some k
-told_at none k e = clash (cc)
-told_at (some j) k e = let z : j ≡ k = cc in ap some z
+pub told_at : (o : Option ℕ) (k : ℕ) → start_told o ≡ Some k → o ≡ Some k
+told_at None k e = clash (cc)
+told_at (Some j) k e = let z : j ≡ k = cc in ap Some z
 
-pub told_none : (o : Option ℕ) → start_told o ≡ NoStart → o ≡ none
-told_none none e = refl
-told_none (some j) e = clash (cc)
+pub told_none : (o : Option ℕ) → start_told o ≡ None → o ≡ None
+told_none None e = refl
+told_none (Some j) e = clash (cc)
 
 -- the place behind a space
 module _ (k : ℕ) (s : List ℕ) where
   module _ (i : ℕ) (e : i ≡ k + before 32 (drop k s)) where
-    pub behind_hit : i < length s → behind_space k s ≡ some (i + 1)
+    pub behind_hit : i < length s → behind_space k s ≡ Some (i + 1)
     unfolding behind_space when◌then◌else◌
     behind_hit h = rw (← e, lt-ltb i (length s) h)
 
-    pub behind_none : length s ≤ i → behind_space k s ≡ none
+    pub behind_none : length s ≤ i → behind_space k s ≡ None
     unfolding behind_space when◌then◌else◌
     behind_none h = rw (← e, le-ltb i (length s) h)
 
-  pub behind_within : (j : ℕ) → behind_space k s ≡ some j → j ≤ length s
+  pub behind_within : (j : ℕ) → behind_space k s ≡ Some j → j ≤ length s
   behind_within j e = choose (ltb (k + before 32 (drop k s)) (length s)) refl
     where
       choose : (t : Bool) → ltb (k + before 32 (drop k s)) (length s) ≡ t → j ≤ length s
@@ -84,7 +82,7 @@ plus_kept (x ∷ xs) h e = rw (ne_eqb x 43 e)
 
 -- a number of at most 65,535
 module _ (s : List ℕ) where
-  pub number_none : is_decimal s ≡ false → small_number s ≡ none
+  pub number_none : is_decimal s ≡ false → small_number s ≡ None
   unfolding small_number when◌then◌else◌
   number_none e = rw e
 
@@ -93,13 +91,13 @@ module _ (s : List ℕ) where
     unfolding content_length
     capped = f ∙ rw e
 
-    pub number_small : n ≤ 65535 → small_number s ≡ some n
+    pub number_small : n ≤ 65535 → small_number s ≡ Some n
     unfolding small_number when◌then◌else◌
     number_small h =
         let z : decimal s ≡ n = omega (arith, capped, h) in
         rw (e, z, le-leb n 65535 h)
 
-    pub number_large : 65535 < n → small_number s ≡ none
+    pub number_large : 65535 < n → small_number s ≡ None
     unfolding small_number when◌then◌else◌
     number_large h =
         let z : 65535 < decimal s = omega (arith, capped, h) in
@@ -107,39 +105,39 @@ module _ (s : List ℕ) where
 
 -- the code and the reason, case by case
 module _ (s : List ℕ) where
-  pub code_other : is_http s ≡ false → None ≡ code_told (status_code s)
+  pub code_other : is_http s ≡ false → Ok None ≡ code_told (status_code s)
   unfolding status_code when◌then◌else◌
   code_other e = rw e
 
-  pub start_other : is_http s ≡ false → reason_start s ≡ none
+  pub start_other : is_http s ≡ false → reason_start s ≡ None
   unfolding reason_start when◌then◌else◌
   start_other e = rw e
 
   module _ (e : is_http s ≡ true) where
-    pub code_none : behind_space 0 s ≡ none → None ≡ code_told (status_code s)
+    pub code_none : behind_space 0 s ≡ None → Ok None ≡ code_told (status_code s)
     unfolding status_code when◌then◌else◌
     code_none f = rw (e, f)
 
-    pub code_at : (k : ℕ) → behind_space 0 s ≡ some k → (t : List ℕ) → t ≡ without_plus (until_space (drop k s))
-        → (c : Code) → c ≡ code_told (small_number t) → c ≡ code_told (status_code s)
+    pub code_at : (k : ℕ) → behind_space 0 s ≡ Some k → (t : List ℕ) → t ≡ without_plus (until_space (drop k s))
+        → (c : Result (Option ℕ) Refusal) → c ≡ code_told (small_number t) → c ≡ code_told (status_code s)
     unfolding status_code when◌then◌else◌
     code_at k f t g c h = rw (e, f, ← g) h
 
-    pub start_none : behind_space 0 s ≡ none → reason_start s ≡ none
+    pub start_none : behind_space 0 s ≡ None → reason_start s ≡ None
     unfolding reason_start when◌then◌else◌
     start_none f = rw (e, f)
 
-    pub start_at : (k : ℕ) → behind_space 0 s ≡ some k → reason_start s ≡ behind_space k s
+    pub start_at : (k : ℕ) → behind_space 0 s ≡ Some k → reason_start s ≡ behind_space k s
     unfolding reason_start when◌then◌else◌
     start_at k f = rw (e, f)
 
   -- a reason starts in its line
-  pub start_within : (k : ℕ) → reason_start s ≡ some k → k ≤ length s
+  pub start_within : (k : ℕ) → reason_start s ≡ Some k → k ≤ length s
   unfolding reason_start
   start_within k e =
-      by_if (λ o. o ≡ some k → k ≤ length s) (is_http s) (thence (behind_space 0 s) (λ j. behind_space j s)) none
+      by_if (λ o. o ≡ Some k → k ≤ length s) (is_http s) (thence (behind_space 0 s) (λ j. behind_space j s)) None
       (λ _. thence_within (behind_space 0 s)) (λ _ f. clash (cc)) e
     where
-      thence_within : (o : Option ℕ) → thence o (λ j. behind_space j s) ≡ some k → k ≤ length s
-      thence_within none f = clash (cc)
-      thence_within (some j) f = behind_within j s k f
+      thence_within : (o : Option ℕ) → thence o (λ j. behind_space j s) ≡ Some k → k ≤ length s
+      thence_within None f = clash (cc)
+      thence_within (Some j) f = behind_within j s k f

@@ -7,76 +7,52 @@ ghost use Rattle.std.specs.Prelude.{◌≡◌};
 ghost use Rattle.lookups.specs.Lookups.{handed_out, status_in};
 ghost use Rattle.codes.specs.Codes.{coding, reasoning, Phrased, length_of, kind_of};
 
+use maps::Place;
 use leaves::lengths;
 use leaves::refusals::Refusal;
-use line::{Code, Start};
-use lookups::Sighted;
-use maps::{Checked, HeaderMap, Status};
+use maps::HeaderMap;
 use standard::types;
 
-// Whether a reason stands in the status.
-#[derive(Clone, Copy)]
-pub enum Phrase {
-    Stands,
-    None,
-    Refused(Refusal),
-}
-
-// The content length of the first field of that name.
-#[derive(Clone, Copy)]
-pub enum Length {
-    Known(u64),
-    Missing,
-    Refused(Refusal),
-}
-
-// The code of a record's type.
-#[derive(Clone, Copy)]
-pub enum Kind {
-    Known(u16),
-    Refused(Refusal),
-}
-
 // The octets of a status; none if it is absent.
-pub fn status_text<'a>(status: Status, block: &'a [u8], store: &'a [u8]) -> &'a [u8]
+pub fn status_text<'a>(status: Option<Place>, block: &'a [u8], store: &'a [u8]) -> &'a [u8]
     ensures { result.now ≡ handed_out block.now store.now (status_in status) }
 {
     match status {
-        Status::Absent => &block[0..0],
-        Status::At(p) => maps::part(block, store, p),
+        None => &block[0..0],
+        Some(p) => maps::part(block, store, p),
     }
 }
 
-pub fn status_code<'a>(m: HeaderMap, block: &'a [u8], store: &'a [u8]) -> Code
+pub fn status_code<'a>(m: HeaderMap, block: &'a [u8], store: &'a [u8]) -> Result<Option<u16>, Refusal>
     ensures { result ≡ coding m block.now store.now }
 {
     let s = maps::check_done(m, block, store);
     match s {
-        Checked::Fine => {
+        Ok(()) => {
             let status = m.status;
             let text = status_text(status, block, store);
             line::code_of(text)
         }
-        Checked::Refused(x) => Code::Refused(x),
+        Err(x) => Err(x),
     }
 }
 
 // Whether there is a reason: an empty one is one.
-pub fn has_reason<'a>(m: HeaderMap, block: &'a [u8], store: &'a [u8]) -> Phrase
+pub fn has_reason<'a>(m: HeaderMap, block: &'a [u8], store: &'a [u8]) -> Result<bool, Refusal>
     ensures { result ≡ reasoning m block.now store.now }
 {
     let s = maps::check_done(m, block, store);
     match s {
-        Checked::Fine => {
+        Ok(()) => {
             let status = m.status;
             let text = status_text(status, block, store);
             let start = line::reason_start(text);
             match start {
-                Start::Begins(k) => Phrase::Stands,
-                Start::None => Phrase::None,
+                Some(k) => Ok(true),
+                None => Ok(false),
             }
         }
-        Checked::Refused(x) => Phrase::Refused(x),
+        Err(x) => Err(x),
     }
 }
 
@@ -87,39 +63,39 @@ pub fn reason<'a>(m: HeaderMap, block: &'a [u8], store: &'a [u8]) -> &'a [u8]
     let text = lookups::status(m, block, store);
     let start = line::reason_start(text);
     match start {
-        Start::Begins(k) => &text[k..],
-        Start::None => &block[0..0],
+        Some(k) => &text[k..],
+        None => &block[0..0],
     }
 }
 
-pub fn content_length<'a>(m: HeaderMap, block: &'a [u8], store: &'a [u8]) -> Length
+pub fn content_length<'a>(m: HeaderMap, block: &'a [u8], store: &'a [u8]) -> Result<Option<u64>, Refusal>
     ensures { result ≡ length_of m block.now store.now }
 {
-    let found = lookups::sight(m, block, store, b"Content-Length", 0);
+    let found = lookups::sight(m, block, store, b"Content-Result<Option<u64>, Refusal>", 0);
     match found {
-        Sighted::Sees(i, f) => {
+        Ok(Some((i, f))) => {
             let p = f.value;
             let value = maps::part(block, store, p);
             let n = lengths::content_length(value);
-            Length::Known(n)
+            Ok(Some(n))
         }
-        Sighted::Missing => Length::Missing,
-        Sighted::Refused(x) => Length::Refused(x),
+        Ok(None) => Ok(None),
+        Err(x) => Err(x),
     }
 }
 
-pub fn record_type<'a>(m: HeaderMap, block: &'a [u8], store: &'a [u8]) -> Kind
+pub fn record_type<'a>(m: HeaderMap, block: &'a [u8], store: &'a [u8]) -> Result<u16, Refusal>
     ensures { result ≡ kind_of m block.now store.now }
 {
     let found = lookups::sight(m, block, store, b"WARC-Type", 0);
     match found {
-        Sighted::Sees(i, f) => {
+        Ok(Some((i, f))) => {
             let p = f.value;
             let value = maps::part(block, store, p);
             let n = types::record_type(value);
-            Kind::Known(n)
+            Ok(n)
         }
-        Sighted::Missing => Kind::Known(0),
-        Sighted::Refused(x) => Kind::Refused(x),
+        Ok(None) => Ok(0),
+        Err(x) => Err(x),
     }
 }

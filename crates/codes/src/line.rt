@@ -6,21 +6,6 @@ ghost use Rattle.codes.specs.Told.{code_told, start_told};
 use leaves::lengths;
 use leaves::refusals::Refusal;
 
-// A status code: a number, none, or a refusal of the map that was asked.
-#[derive(Clone, Copy)]
-pub enum Code {
-    Known(u16),
-    None,
-    Refused(Refusal),
-}
-
-// Where a part of a text starts, if it has one.
-#[derive(Clone, Copy)]
-pub enum Start {
-    Begins(usize),
-    None,
-}
-
 fn is_http(text: &[u8]) -> bool
     ensures { result ≡ is_http text.now }
 {
@@ -31,15 +16,15 @@ fn is_http(text: &[u8]) -> bool
 }
 
 // The place behind the first space from a place on.
-fn behind_space(text: &[u8], from: usize) -> Start
+fn behind_space(text: &[u8], from: usize) -> Option<usize>
     requires { from ≤ length text.now }
     ensures { result ≡ start_told (behind_space from text.now) }
 {
     let i = lines::find_octet(text, from, 32);
     if i < text.len() {
-        return Start::Begins(i + 1);
+        return Some(i + 1);
     }
-    Start::None
+    None
 }
 
 #[tactic(auto, using(crate::proofs::LineLaws::plus_empty, crate::proofs::LineLaws::plus_tail, crate::proofs::LineLaws::plus_kept))]
@@ -57,49 +42,49 @@ fn without_plus<'a>(text: &'a [u8]) -> &'a [u8]
 
 // The number of one or more digits, at most 65,535.
 #[tactic(auto, using(crate::proofs::LineLaws::number_small, crate::proofs::LineLaws::number_large, crate::proofs::LineLaws::number_none))]
-fn small_number(text: &[u8]) -> Code
+fn small_number(text: &[u8]) -> Result<Option<u16>, Refusal>
     ensures { result ≡ code_told (small_number text.now) }
 {
     if lengths::is_decimal(text) {
         let n = lengths::content_length(text);
         if n <= 65535 {
-            return Code::Known(n as u16);
+            return Ok(Some(n as u16));
         }
-        return Code::None;
+        return Ok(None);
     }
-    Code::None
+    Ok(None)
 }
 
 // The status code of a status line.
-pub fn code_of(text: &[u8]) -> Code
+pub fn code_of(text: &[u8]) -> Result<Option<u16>, Refusal>
     ensures { result ≡ code_told (status_code text.now) }
 {
     if is_http(text) {
         let start = behind_space(text, 0);
         match start {
-            Start::Begins(k) => {
+            Some(k) => {
                 let end = lines::find_octet(text, k, 32);
                 let digits = without_plus(&text[k..end]);
                 small_number(digits)
             }
-            Start::None => Code::None,
+            None => Ok(None),
         }
     } else {
-        Code::None
+        Ok(None)
     }
 }
 
 // Where the reason of a status line starts.
-pub fn reason_start(text: &[u8]) -> Start
+pub fn reason_start(text: &[u8]) -> Option<usize>
     ensures { result ≡ start_told (reason_start text.now) }
 {
     if is_http(text) {
         let start = behind_space(text, 0);
         match start {
-            Start::Begins(k) => behind_space(text, k),
-            Start::None => Start::None,
+            Some(k) => behind_space(text, k),
+            None => None,
         }
     } else {
-        Start::None
+        None
     }
 }

@@ -1,4 +1,6 @@
 -- Two headers that were read to their blank lines, and what resume says of them. Assumes nothing.
+use Rattle.leaves.specs.declared.refusals.Refusal.{Refusal}
+use Rattle.std.specs.Prelude.{Ok, Result}
 use mathlib.Core.Path.{◌≡◌, refl, sym, ◌∙◌, ap, subst}
 use mathlib.Core.Bool.{false}
 use lib.ListN.{length}
@@ -7,7 +9,6 @@ use Rattle.maps.specs.Good.{checked_done}
 use Rattle.maps.specs.Maps.{Given}
 use Rattle.maps.specs.Said.{Said, saying}
 use Rattle.maps.specs.declared.HeaderMap.{HeaderMap}
-use Rattle.maps.specs.declared.Checked.TheVariants.{Fine}
 use Rattle.reader.specs.Calls.{checked_rooms, feeding}
 use Rattle.line_reader.specs.declared.Answer.{Answer}
 use Rattle.reader.specs.declared.Fed.{Fed}
@@ -23,7 +24,7 @@ use Rattle.demands.specs.Demands.{AppendsOnly}
 use Rattle.demands.proofs.Never.{rooms_fine, begun_block, begun_store, never_feed}
 
 module _ (f : Fetch) (w : Whole f) where
-  fine : Fine ≡ checked_rooms f.limit f.room (length f.block) (length f.store)
+  fine : Ok tt ≡ checked_rooms f.limit f.room (length f.block) (length f.store)
   fine = rooms_fine f.map f.limit f.room f.status f.quirks f.block f.store w.begins
 
   abbrev M : HeaderMap
@@ -57,8 +58,8 @@ module _ (f : Fetch) (w : Whole f) where
       rw (e, g) at (never_feed f.map f.limit f.room f.status f.quirks f.block f.store w.begins f.pieces)
 
   -- and 3, 2 and 7 do not refuse it
-  usable : Fine ≡ checked_done (fetched f).result.map (fetched f).block (fetched f).store
-  usable = within.fine ∙ ap (λ (a : Answer). next_checks a (fetched f).result.map (fetched f).block (fetched f).store) w.ends
+  usable : Ok tt ≡ checked_done (fetched f).result.map (fetched f).block (fetched f).store
+  usable = within.fine ∙ ap (λ (a : Result Answer Refusal). next_checks a (fetched f).result.map (fetched f).block (fetched f).store) w.ends
 
 pub appends_only : (f g : Fetch) → Whole f → Whole g → AppendsOnly f g
 appends_only f g w v =

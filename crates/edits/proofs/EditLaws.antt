@@ -1,4 +1,5 @@
 -- What an edit gives, case by case. Assumes nothing.
+use Rattle.std.specs.Prelude.{Err, Ok, Some}
 use mathlib.Core.Path.{◌≡◌, refl, sym, ap, ◌∙◌}
 use mathlib.Core.Bool.{Bool, true, false, ◌||◌}
 use mathlib.Core.List.{List, ◌++◌}
@@ -17,14 +18,10 @@ use Rattle.maps.specs.Maps.{Given, Is}
 use Rattle.maps.specs.Places.{in_store}
 use Rattle.maps.specs.declared.Field.{Field}
 use Rattle.maps.specs.declared.Place.{Place}
-use Rattle.maps.specs.declared.Status.TheVariants.{At}
-use Rattle.maps.specs.declared.Checked.TheVariants.{Fine, Refused as No}
 use Rattle.maps.specs.declared.HeaderMap.{HeaderMap}
 use Rattle.maps.proofs.GoodLaws.{goes_on, refused_by}
 use Rattle.lookups.specs.Lookups.{named}
-use Rattle.edits.specs.declared.Edit.TheVariants.{Done, Refused}
 use Rattle.edits.specs.declared.Edited.{Edited}
-use Rattle.edits.specs.declared.Plan.TheVariants.{Put, Refused as NotPut}
 use Rattle.edits.specs.declared.tables.Kept.{Kept}
 use Rattle.edits.specs.Fields.{first_at, put_at, laid}
 use Rattle.edits.specs.Edits.{remade, refusing, done, changing, new_field, planned, setting, appending, putting, leaving, removing, statusing}
@@ -40,15 +37,15 @@ fits_rest k v free h = choose (leb v (free - k)) refl
 
 -- what putting the texts k and v in at i comes to
 module _ (i mark room : ℕ) (k v : List ℕ) where
-  pub plan_full : 256 ≤ i → planned i mark room k v ≡ NotPut FieldsFull
+  pub plan_full : 256 ≤ i → planned i mark room k v ≡ Err FieldsFull
   unfolding planned
   plan_full h = if_false _ _ (le-ltb _ _ h)
 
-  pub plan_room : i < 256 → leb (length k + length v) (room - mark) ≡ false → planned i mark room k v ≡ NotPut StoreFull
+  pub plan_room : i < 256 → leb (length k + length v) (room - mark) ≡ false → planned i mark room k v ≡ Err StoreFull
   unfolding planned
   plan_room h e = if_true _ _ (lt-ltb _ _ h) ∙ if_false _ _ e
 
-  pub plan_put : i < 256 → leb (length k + length v) (room - mark) ≡ true → planned i mark room k v ≡ Put (new_field mark (length k) (length v))
+  pub plan_put : i < 256 → leb (length k + length v) (room - mark) ≡ true → planned i mark room k v ≡ Ok (new_field mark (length k) (length v))
   unfolding planned
   plan_put h e = if_true _ _ (lt-ltb _ _ h) ∙ if_true _ _ e
 
@@ -58,14 +55,14 @@ module _ (i mark room : ℕ) (k v : List ℕ) where
     pub fits : mark + length k + length v ≤ room
     pub is : f ≡ new_field mark (length k) (length v)
 
-  pub plan_of : mark ≤ room → (f : Field) → Put f ≡ planned i mark room k v → Planned f
+  pub plan_of : mark ≤ room → (f : Field) → Ok f ≡ planned i mark room k v → Planned f
   plan_of l f e = choose (ltb i 256) refl (leb (length k + length v) (room - mark)) refl
     where
       choose : (t : Bool) → ltb i 256 ≡ t → (u : Bool) → leb (length k + length v) (room - mark) ≡ u → Planned f
       choose false p u q = clash (cc (plan_full (ltb-false _ _ p)))
       choose true p false q = clash (cc (plan_room (ltb-true _ _ p) q))
       choose true p true q =
-          let z : Put f ≡ Put (new_field mark (length k) (length v)) = e ∙ plan_put (ltb-true _ _ p) q in
+          let z : Ok f ≡ Ok (new_field mark (length k) (length v)) = e ∙ plan_put (ltb-true _ _ p) q in
           let g : length k + length v ≤ room - mark = leb-true _ _ q in
           record { inside = ltb-true _ _ p; fits = omega (arith, g, l); is = cc }
 
@@ -76,20 +73,20 @@ is_by e p = record { result = p.result ∙ ap (λ (x : Given Edited). x.result) 
 module _ (m : HeaderMap) (b s : List ℕ) where
   -- the first checks of every edit
   module _ (g : Given Edited) where
-    pub edit_fine : Fine ≡ checked_done m b s → unless (checked_done m b s) (refusing m b s) g ≡ g
+    pub edit_fine : Ok tt ≡ checked_done m b s → unless (checked_done m b s) (refusing m b s) g ≡ g
     edit_fine e = goes_on (refusing m b s) g _ e
 
-    pub edit_refused : (x : Refusal) → No x ≡ checked_done m b s
-        → Is (unless (checked_done m b s) (refusing m b s) g) (record { answer = Refused x; map = m }) b s
+    pub edit_refused : (x : Refusal) → Err x ≡ checked_done m b s
+        → Is (unless (checked_done m b s) (refusing m b s) g) (record { answer = Err x; map = m }) b s
     edit_refused x e = is_by (refused_by (refusing m b s) g _ x e) (record { result = refl; block = refl; store = refl })
 
   -- 5, then 6
   module _ (n : HeaderMap) (t : List ℕ) where
-    pub change_full : 256 < n.fields → Is (changing m b s n t) (record { answer = Refused FieldsFull; map = m }) b s
+    pub change_full : 256 < n.fields → Is (changing m b s n t) (record { answer = Err FieldsFull; map = m }) b s
     unfolding changing
     change_full h = is_by (if_true _ _ (lt-ltb _ _ h)) (record { result = refl; block = refl; store = refl })
 
-    pub change_room : n.fields ≤ 256 → m.room < m.mark + length t → Is (changing m b s n t) (record { answer = Refused StoreFull; map = m }) b s
+    pub change_room : n.fields ≤ 256 → m.room < m.mark + length t → Is (changing m b s n t) (record { answer = Err StoreFull; map = m }) b s
     unfolding changing
     change_room h k = is_by (if_false _ _ (le-ltb _ _ h) ∙ if_true _ _ (lt-ltb _ _ k)) (record { result = refl; block = refl; store = refl })
 
@@ -105,7 +102,7 @@ module _ (m : HeaderMap) (b s : List ℕ) where
     short : length (live m) ≤ 256
     short = omega (arith, length-take m.fields m.table)
 
-    pub put_full : length m.table ≡ 256 → i ≤ m.fields → 256 ≤ i → Is (putting m b s i key value) (record { answer = Refused FieldsFull; map = m }) b s
+    pub put_full : length m.table ≡ 256 → i ≤ m.fields → 256 ≤ i → Is (putting m b s i key value) (record { answer = Err FieldsFull; map = m }) b s
     unfolding putting
     put_full l h k =
         let w : i ≤ length (live m) = omega (arith, length-take m.fields m.table) in
@@ -113,7 +110,7 @@ module _ (m : HeaderMap) (b s : List ℕ) where
 
     module _ (h : i < 256) where
       pub put_room : m.room < m.mark + length (sanitised true key) + length (sanitised false value)
-          → Is (putting m b s i key value) (record { answer = Refused StoreFull; map = m }) b s
+          → Is (putting m b s i key value) (record { answer = Err StoreFull; map = m }) b s
       unfolding putting
       put_room g =
           change_room _ _ (put_fits (named b s (sanitised true key)) _ (live m) i h short) (rw (texts (sanitised true key) (sanitised false value)) g)
@@ -123,7 +120,7 @@ module _ (m : HeaderMap) (b s : List ℕ) where
           → (kept : Kept) → kept ≡ laid m.table (put_at (named b s (sanitised true key)) f i (live m))
           → (mark : ℕ) → mark ≡ m.mark + length (sanitised true key) + length (sanitised false value)
           → (z : List ℕ) → z ≡ pasted s m.mark (sanitised true key ++ sanitised false value)
-          → Is (putting m b s i key value) (record { answer = Done; map = remade m kept.table kept.n m.status mark true }) b z
+          → Is (putting m b s i key value) (record { answer = Ok tt; map = remade m kept.table kept.n m.status mark true }) b z
       unfolding putting
       put_done g f fe kept ke mark me z ze =
           let e = texts (sanitised true key) (sanitised false value) in
@@ -133,18 +130,18 @@ module _ (m : HeaderMap) (b s : List ℕ) where
 
     -- 5 or 6, by what it comes to
     pub put_refused : length m.table ≡ 256 → i ≤ m.fields → m.mark ≤ m.room
-        → (x : Refusal) → NotPut x ≡ planned i m.mark m.room (sanitised true key) (sanitised false value)
-        → Is (putting m b s i key value) (record { answer = Refused x; map = m }) b s
+        → (x : Refusal) → Err x ≡ planned i m.mark m.room (sanitised true key) (sanitised false value)
+        → Is (putting m b s i key value) (record { answer = Err x; map = m }) b s
     put_refused w h l x e = choose (ltb i 256) refl (leb (length (sanitised true key) + length (sanitised false value)) (m.room - m.mark)) refl
       where
         choose : (t : Bool) → ltb i 256 ≡ t → (u : Bool) → leb (length (sanitised true key) + length (sanitised false value)) (m.room - m.mark) ≡ u
-            → Is (putting m b s i key value) (record { answer = Refused x; map = m }) b s
+            → Is (putting m b s i key value) (record { answer = Err x; map = m }) b s
         choose false p u q =
-            let z : NotPut FieldsFull ≡ NotPut x = sym (e ∙ plan_full i m.mark m.room (sanitised true key) (sanitised false value) (ltb-false _ _ p)) in
+            let z : Err FieldsFull ≡ Err x = sym (e ∙ plan_full i m.mark m.room (sanitised true key) (sanitised false value) (ltb-false _ _ p)) in
             let y : FieldsFull ≡ x = cc in
             rw (← y) (put_full w h (ltb-false _ _ p))
         choose true p false q =
-            let z : NotPut StoreFull ≡ NotPut x = sym (e ∙ plan_room i m.mark m.room (sanitised true key) (sanitised false value) (ltb-true _ _ p) q) in
+            let z : Err StoreFull ≡ Err x = sym (e ∙ plan_room i m.mark m.room (sanitised true key) (sanitised false value) (ltb-true _ _ p) q) in
             let y : StoreFull ≡ x = cc in
             let g : m.room - m.mark < length (sanitised true key) + length (sanitised false value) = leb-false _ _ q in
             rw (← y) (put_room (ltb-true _ _ p) (omega (arith, g, l)))
@@ -152,30 +149,30 @@ module _ (m : HeaderMap) (b s : List ℕ) where
 
   module _ (key value : List ℕ) where
     -- set and append, by the number of the field
-    pub set_is : Fine ≡ checked_done m b s → (i : ℕ) → i ≡ first_at (named b s (sanitised true key)) (live m)
+    pub set_is : Ok tt ≡ checked_done m b s → (i : ℕ) → i ≡ first_at (named b s (sanitised true key)) (live m)
         → setting m b s key value ≡ putting m b s i key value
     unfolding setting putting
     set_is e i q = edit_fine _ e ∙ rw (q, replaced_at)
 
-    pub append_is : Fine ≡ checked_done m b s → appending m b s key value ≡ putting m b s m.fields key value
+    pub append_is : Ok tt ≡ checked_done m b s → appending m b s key value ≡ putting m b s m.fields key value
     unfolding appending putting
     append_is e = edit_fine _ e ∙ rw (appended_at (named b s (sanitised true key)))
 
-  pub remove_is : (key : List ℕ) → Fine ≡ checked_done m b s → (kept : Kept) → kept ≡ laid m.table (leaving m b s key)
+  pub remove_is : (key : List ℕ) → Ok tt ≡ checked_done m b s → (kept : Kept) → kept ≡ laid m.table (leaving m b s key)
       → (edited : Bool) → edited ≡ (m.edited || ltb kept.n m.fields)
-      → Is (removing m b s key) (record { answer = Done; map = remade m kept.table kept.n m.status m.mark edited }) b s
+      → Is (removing m b s key) (record { answer = Ok tt; map = remade m kept.table kept.n m.status m.mark edited }) b s
   unfolding removing
   remove_is key e kept ke edited d = is_by (edit_fine _ e) (record { result = rw (d, ke); block = refl; store = refl })
 
   -- set status
-  module _ (text : List ℕ) (fine : Fine ≡ checked_done m b s) (few : m.fields ≤ 256) where
-    pub status_room : m.room < m.mark + length (sanitised true text) → Is (statusing m b s text) (record { answer = Refused StoreFull; map = m }) b s
+  module _ (text : List ℕ) (fine : Ok tt ≡ checked_done m b s) (few : m.fields ≤ 256) where
+    pub status_room : m.room < m.mark + length (sanitised true text) → Is (statusing m b s text) (record { answer = Err StoreFull; map = m }) b s
     unfolding statusing
     status_room g = is_by (edit_fine _ fine) (change_room _ _ few g)
 
     pub status_done : m.mark + length (sanitised true text) ≤ m.room → (mark : ℕ) → mark ≡ m.mark + length (sanitised true text)
         → (p : Place) → p ≡ in_store m.mark mark → (z : List ℕ) → z ≡ pasted s m.mark (sanitised true text)
-        → Is (statusing m b s text) (record { answer = Done; map = remade m m.table m.fields (At p) mark true }) b z
+        → Is (statusing m b s text) (record { answer = Ok tt; map = remade m m.table m.fields (Some p) mark true }) b z
     unfolding statusing
     status_done g mark me p pe z ze =
         is_by (edit_fine _ fine ∙ change_done _ _ few g) (record { result = rw (pe, me); block = refl; store = ze })

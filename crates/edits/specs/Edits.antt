@@ -1,5 +1,6 @@
 -- What the edits give: the answer, the map and both loans. Assumes nothing.
-use Rattle.std.specs.Prelude.{Bool, true, false, ◌||◌, List, [], ◌∷◌, ◌++◌, ℕ, ◌+◌, ◌-◌, leb, ltb, length}
+use Rattle.maps.specs.declared.Place.{Place}
+use Rattle.std.specs.Prelude.{Bool, true, false, ◌||◌, List, [], ◌∷◌, ◌++◌, ℕ, ◌+◌, ◌-◌, leb, ltb, length, Err, Ok, Option, Result, Some}
 use Rattle.leaves.specs.Choice.{when◌then◌else◌}
 use Rattle.leaves.specs.Paste.{lay, pasted}
 use Rattle.leaves.specs.Sanitise.{sanitised}
@@ -9,18 +10,13 @@ use Rattle.maps.specs.Places.{in_store, edit_field}
 use Rattle.maps.specs.Good.{live, checked_done, unless}
 use Rattle.maps.specs.Maps.{Given}
 use Rattle.maps.specs.declared.Field.{Field}
-use Rattle.maps.specs.declared.Status.{Status}
-use Rattle.maps.specs.declared.Status.TheVariants.{At}
 use Rattle.maps.specs.declared.HeaderMap.{HeaderMap}
 use Rattle.lookups.specs.Lookups.{named}
 use Rattle.edits.specs.Fields.{keeps, replaced, put_at}
-use Rattle.edits.specs.declared.Edit.TheVariants.{Done, Refused}
 use Rattle.edits.specs.declared.Edited.{Edited}
-use Rattle.edits.specs.declared.Plan.{Plan}
-use Rattle.edits.specs.declared.Plan.TheVariants.{Put, Refused as NotPut}
 
 -- a map with another table, number of fields, status and mark, and whether it is edited
-abbrev pub remade : HeaderMap → List Field → ℕ → Status → ℕ → Bool → HeaderMap
+abbrev pub remade : HeaderMap → List Field → ℕ → Option Place → ℕ → Bool → HeaderMap
 remade m table fields status mark edited =
     record {
       table = table;
@@ -43,11 +39,11 @@ with_fields m xs mark edited = remade m (lay m.table xs) (length xs) m.status ma
 
 -- a refused edit leaves "all": "map and lent memory keep their contents"
 abbrev pub refusing : HeaderMap → List ℕ → List ℕ → Refusal → Given Edited
-refusing m b s x = record { result = record { answer = Refused x; map = m }; block = b; store = s }
+refusing m b s x = record { result = record { answer = Err x; map = m }; block = b; store = s }
 
 -- an edit is done: it gives the map n, and the store became z
 abbrev pub done : HeaderMap → List ℕ → List ℕ → Given Edited
-done n b z = record { result = record { answer = Done; map = n }; block = b; store = z }
+done n b z = record { result = record { answer = Ok tt; map = n }; block = b; store = z }
 
 -- "5 a 257th field is needed", "6 mark plus new octets exceed the room", else the map n, with the text t put "at the mark; .. the
 -- rest of the store stays"
@@ -63,11 +59,11 @@ new_field n k v = edit_field (in_store n (n + k)) (in_store (n + k) (n + k + v))
 
 -- what putting the texts k and v in at the number i comes to: "5 a 257th field is needed", "6 mark plus new octets exceed the room", else the
 -- field that is to stand at the mark
-unfoldable pub planned : ℕ → ℕ → ℕ → List ℕ → List ℕ → Plan
+unfoldable pub planned : ℕ → ℕ → ℕ → List ℕ → List ℕ → Result Field Refusal
 planned i mark room k v =
     when ltb i 256
-    then (when leb (length k + length v) (room - mark) then Put (new_field mark (length k) (length v)) else NotPut (refusal 6))
-    else NotPut (refusal 5)
+    then (when leb (length k + length v) (room - mark) then Ok (new_field mark (length k) (length v)) else Err (refusal 6))
+    else Err (refusal 5)
 
 -- an edit that makes the map n and puts the text t at the mark, after 3, 2 and 7
 abbrev pub editing : HeaderMap → List ℕ → List ℕ → HeaderMap → List ℕ → Given Edited
@@ -112,7 +108,7 @@ removing m b s key = unless (checked_done m b s) (refusing m b s) (done (thinned
 
 -- the map with the text of n octets at the mark as its status
 abbrev pub with_status : HeaderMap → ℕ → HeaderMap
-with_status m n = remade m m.table m.fields (At (in_store m.mark (m.mark + n))) (m.mark + n) true
+with_status m n = remade m m.table m.fields (Some (in_store m.mark (m.mark + n))) (m.mark + n) true
 
 -- "set status its text"; "in keys and status lines drops colons"
 unfoldable pub statusing : HeaderMap → List ℕ → List ℕ → List ℕ → Given Edited

@@ -5,33 +5,19 @@ ghost use Rattle.std.specs.Prelude.{◌≡◌, true, false, ◌||◌, ◌++◌, 
 ghost use Rattle.leaves.specs.Paste.{pasted};
 ghost use Rattle.leaves.specs.Sanitise.{sanitised};
 ghost use Rattle.maps.specs.Good.{checked_done};
-ghost use Rattle.maps.specs.declared.Checked.TheVariants.{Fine};
 ghost use Rattle.maps.specs.Maps.{Is};
 ghost use Rattle.edits.specs.Edits.{new_field, planned, putting, removing, setting, appending, statusing};
 
 use leaves::refusals::Refusal;
 use leaves::sanitise;
-use maps::{Checked, Field, HeaderMap, Status};
+use maps::{Field, HeaderMap};
 
 mod tables;
 
 #[derive(Clone, Copy)]
-pub enum Edit {
-    Done,
-    Refused(Refusal),
-}
-
-#[derive(Clone, Copy)]
 pub struct Edited {
-    pub answer: Edit,
+    pub answer: Result<(), Refusal>,
     pub map: HeaderMap,
-}
-
-// What an edit that puts a key and a value in comes to: a field, or a refusal.
-#[derive(Clone, Copy)]
-pub enum Plan {
-    Put(Field),
-    Refused(Refusal),
 }
 
 // Whether a map is edited once k of its n fields stay.
@@ -47,7 +33,7 @@ pub fn remove<'a>(m: HeaderMap, block: &'a [u8], store: &'a [u8], key: &[u8]) ->
 {
     let s = maps::check_done(m, block, store);
     match s {
-        Checked::Fine => {
+        Ok(()) => {
             let t = m.table;
             let n = m.fields;
             let kept = tables::compact(t, 0, n, block, store, key);
@@ -60,11 +46,11 @@ pub fn remove<'a>(m: HeaderMap, block: &'a [u8], store: &'a [u8], key: &[u8]) ->
                 edited,
                 ..m
             };
-            let answer = Edit::Done;
+            let answer = Ok(());
             Edited { answer, map }
         }
-        Checked::Refused(x) => {
-            let answer = Edit::Refused(x);
+        Err(x) => {
+            let answer = Err(x);
             Edited { answer, map: m }
         }
     }
@@ -103,7 +89,7 @@ pub fn write_both(store: &mut [u8], mark: usize, key: &[u8], value: &[u8]) -> us
 }
 
 // What putting a key and a value in at a number comes to: the field that is to stand at the mark, or 5, or 6.
-pub fn plan_put(at: usize, mark: usize, room: usize, key: &[u8], value: &[u8]) -> Plan
+pub fn plan_put(at: usize, mark: usize, room: usize, key: &[u8], value: &[u8]) -> Result<Field, Refusal>
     requires { (mark ≤ room) × (room ≤ 65536) }
     ensures { result ≡ planned at mark room (sanitised true key.now) (sanitised false value.now) }
 {
@@ -111,11 +97,11 @@ pub fn plan_put(at: usize, mark: usize, room: usize, key: &[u8], value: &[u8]) -
         let k = sanitise::sanitised_length(key, true);
         let v = sanitise::sanitised_length(value, false);
         if fit(room - mark, k, v) {
-            return Plan::Put(new_field(mark, k, v));
+            return Ok(new_field(mark, k, v));
         }
-        return Plan::Refused(Refusal::StoreFull);
+        return Err(Refusal::StoreFull);
     }
-    Plan::Refused(Refusal::FieldsFull)
+    Err(Refusal::FieldsFull)
 }
 
 // The new key and value become the field number at, and later fields of that key go.
@@ -127,12 +113,12 @@ fn put_at<'a>(
     key: &[u8],
     value: &[u8],
 ) -> Edited
-    requires { (Fine ≡ checked_done m block.now store.old) × (at ≤ m.fields) }
+    requires { (Ok tt ≡ checked_done m block.now store.old) × (at ≤ m.fields) }
     ensures { Is (putting m block.now store.old at key.now value.now) result block.now store.new }
 {
     let planned = plan_put(at, m.mark, m.room, key, value);
     match planned {
-        Plan::Put(f) => {
+        Ok(f) => {
             let t = m.table;
             let kept = tables::put(t, m.fields, at, f, block, store, key);
             let table = kept.table;
@@ -145,14 +131,14 @@ fn put_at<'a>(
                 edited: true,
                 ..m
             };
-            let answer = Edit::Done;
+            let answer = Ok(());
             Edited {
                 answer,
                 map: filled,
             }
         }
-        Plan::Refused(x) => {
-            let answer = Edit::Refused(x);
+        Err(x) => {
+            let answer = Err(x);
             Edited { answer, map: m }
         }
     }
@@ -164,14 +150,14 @@ pub fn set<'a>(m: HeaderMap, block: &'a [u8], store: &mut [u8], key: &[u8], valu
 {
     let s = maps::check_done(m, block, store);
     match s {
-        Checked::Fine => {
+        Ok(()) => {
             let t = m.table;
             let n = m.fields;
             let at = tables::first_at(t, n, block, store, key);
             put_at(m, block, store, at, key, value)
         }
-        Checked::Refused(x) => {
-            let answer = Edit::Refused(x);
+        Err(x) => {
+            let answer = Err(x);
             Edited { answer, map: m }
         }
     }
@@ -189,12 +175,12 @@ pub fn append<'a>(
 {
     let s = maps::check_done(m, block, store);
     match s {
-        Checked::Fine => {
+        Ok(()) => {
             let n = m.fields;
             put_at(m, block, store, n, key, value)
         }
-        Checked::Refused(x) => {
-            let answer = Edit::Refused(x);
+        Err(x) => {
+            let answer = Err(x);
             Edited { answer, map: m }
         }
     }
@@ -206,7 +192,7 @@ pub fn set_status(m: HeaderMap, block: &[u8], store: &mut [u8], text: &[u8]) -> 
 {
     let s = maps::check_done(m, block, store);
     match s {
-        Checked::Fine => {
+        Ok(()) => {
             let start = m.mark;
             let room = m.room;
             let k = sanitise::sanitised_length(text, true);
@@ -214,21 +200,21 @@ pub fn set_status(m: HeaderMap, block: &[u8], store: &mut [u8], text: &[u8]) -> 
                 let n = sanitise::sanitise_into(store, start, text, true);
                 let mark = start + n;
                 let place = maps::in_store(start, mark);
-                let status = Status::At(place);
+                let status = Some(place);
                 let map = HeaderMap {
                     status,
                     mark,
                     edited: true,
                     ..m
                 };
-                let answer = Edit::Done;
+                let answer = Ok(());
                 return Edited { answer, map };
             }
-            let answer = Edit::Refused(Refusal::StoreFull);
+            let answer = Err(Refusal::StoreFull);
             Edited { answer, map: m }
         }
-        Checked::Refused(x) => {
-            let answer = Edit::Refused(x);
+        Err(x) => {
+            let answer = Err(x);
             Edited { answer, map: m }
         }
     }

@@ -1,4 +1,5 @@
 -- What compare gives, case by case. Assumes nothing.
+use Rattle.std.specs.Prelude.{Err, Ok}
 use mathlib.Core.Path.{◌≡◌, refl, sym, ap, ◌∙◌}
 use mathlib.Core.Bool.{Bool, true, false, ◌&&◌}
 use mathlib.Core.List.{List, map}
@@ -11,29 +12,27 @@ use Rattle.leaves.proofs.ChoiceLaws.{and_false}
 use Rattle.maps.specs.Good.{checked_done, live}
 use Rattle.maps.specs.declared.HeaderMap.{HeaderMap}
 use Rattle.leaves.specs.declared.refusals.Refusal.{Refusal}
-use Rattle.maps.specs.declared.Checked.TheVariants.{Fine, Refused as Bad}
 use Rattle.maps.specs.Said.{pair_at, status_at, saying}
-use Rattle.equals.specs.declared.Equal.TheVariants.{Yes, No, Refused}
 use Rattle.equals.specs.Equal.{same_pairs, same_status, same_said, comparing}
 use Rattle.equals.proofs.PairLaws.{pairs_apart}
 
 -- by cases of the call
 module _ (m : HeaderMap) (b s : List ℕ) (k : HeaderMap) (c z : List ℕ) where
-  pub first_refused : (x : Refusal) → Bad x ≡ checked_done m b s → Refused x ≡ comparing m b s k c z
+  pub first_refused : (x : Refusal) → Err x ≡ checked_done m b s → Err x ≡ comparing m b s k c z
   unfolding comparing
   first_refused x e = rw (sym e)
 
-  module _ (e : Fine ≡ checked_done m b s) where
-    pub second_refused : (x : Refusal) → Bad x ≡ checked_done k c z → Refused x ≡ comparing m b s k c z
+  module _ (e : Ok tt ≡ checked_done m b s) where
+    pub second_refused : (x : Refusal) → Err x ≡ checked_done k c z → Err x ≡ comparing m b s k c z
     unfolding comparing
     second_refused x f = rw (sym e, sym f)
 
-    module _ (f : Fine ≡ checked_done k c z) where
-      no_by : same_said (saying m b s) (saying k c z) ≡ false → No ≡ comparing m b s k c z
+    module _ (f : Ok tt ≡ checked_done k c z) where
+      no_by : same_said (saying m b s) (saying k c z) ≡ false → Ok false ≡ comparing m b s k c z
       unfolding comparing when◌then◌else◌
       no_by h = rw (sym e, sym f, h)
 
-      yes_by : same_said (saying m b s) (saying k c z) ≡ true → Yes ≡ comparing m b s k c z
+      yes_by : same_said (saying m b s) (saying k c z) ≡ true → Ok true ≡ comparing m b s k c z
       unfolding comparing when◌then◌else◌
       yes_by h = rw (sym e, sym f, h)
 
@@ -42,10 +41,10 @@ module _ (m : HeaderMap) (b s : List ℕ) (k : HeaderMap) (c z : List ℕ) where
       unfolding same_said saying
       said p q g h = rw (g, h)
 
-      pub status_differs : same_status (status_at b s m.status) (status_at c z k.status) ≡ false → No ≡ comparing m b s k c z
+      pub status_differs : same_status (status_at b s m.status) (status_at c z k.status) ≡ false → Ok false ≡ comparing m b s k c z
       status_differs g = no_by (said false _ g refl)
 
-      pub counts_differ : length m.table ≡ 256 → length k.table ≡ 256 → m.fields ≤ 256 → k.fields ≤ 256 → (m.fields ≡ k.fields → ⊥) → No ≡ comparing m b s k c z
+      pub counts_differ : length m.table ≡ 256 → length k.table ≡ 256 → m.fields ≤ 256 → k.fields ≤ 256 → (m.fields ≡ k.fields → ⊥) → Ok false ≡ comparing m b s k c z
       counts_differ l₁ l₂ n₁ n₂ h =
           let p : length (live m) ≡ m.fields = length-take-le m.fields m.table (omega arith) in
           let q : length (live k) ≡ k.fields = length-take-le k.fields k.table (omega arith) in
@@ -53,8 +52,8 @@ module _ (m : HeaderMap) (b s : List ℕ) (k : HeaderMap) (c z : List ℕ) where
           no_by (said _ false refl d ∙ and_false (same_status (status_at b s m.status) (status_at c z k.status)) false refl)
 
       module _ (g : same_status (status_at b s m.status) (status_at c z k.status) ≡ true) (h : m.fields ≡ k.fields) where
-        pub same_yes : same_pairs (map (pair_at b s) (take m.fields m.table)) (map (pair_at c z) (take m.fields k.table)) ≡ true → Yes ≡ comparing m b s k c z
+        pub same_yes : same_pairs (map (pair_at b s) (take m.fields m.table)) (map (pair_at c z) (take m.fields k.table)) ≡ true → Ok true ≡ comparing m b s k c z
         same_yes d = yes_by (said true true g (ap (λ (n : ℕ). same_pairs (map (pair_at b s) (live m)) (map (pair_at c z) (take n k.table))) (sym h) ∙ d))
 
-        pub same_no : same_pairs (map (pair_at b s) (take m.fields m.table)) (map (pair_at c z) (take m.fields k.table)) ≡ false → No ≡ comparing m b s k c z
+        pub same_no : same_pairs (map (pair_at b s) (take m.fields m.table)) (map (pair_at c z) (take m.fields k.table)) ≡ false → Ok false ≡ comparing m b s k c z
         same_no d = no_by (said true false g (ap (λ (n : ℕ). same_pairs (map (pair_at b s) (live m)) (map (pair_at c z) (take n k.table))) (sym h) ∙ d))

@@ -1,4 +1,5 @@
 -- Laws of fields and status lines that say the same. Assumes nothing.
+use Rattle.std.specs.Prelude.{None, Option, Some}
 use mathlib.Core.Path.{◌≡◌, refl, ap}
 use mathlib.Core.Bool.{Bool, true, false}
 use mathlib.Core.List.{List, [], ◌∷◌, map}
@@ -10,8 +11,6 @@ use Rattle.maps.specs.Places.{at, no_field}
 use Rattle.lookups.proofs.SeekLaws.{live_cons, live_end}
 use Rattle.maps.specs.declared.Field.{Field}
 use Rattle.maps.specs.declared.Place.{Place}
-use Rattle.maps.specs.declared.Status.{Status}
-use Rattle.maps.specs.declared.Status.TheVariants.{Absent, At}
 use Rattle.maps.specs.Said.{Pair, pair_at, status_at}
 use Rattle.equals.specs.Equal.{same_pairs, same_status}
 
@@ -46,19 +45,19 @@ pairs_apart (p ∷ ps) [] h = refl
 pairs_apart (p ∷ ps) (q ∷ qs) h = and_false (same_list p.key q.key) _ (and_false (same_list p.value q.value) _ (pairs_apart ps qs (λ e. h (ap suc e))))
 
 -- the status, by what both are
-module _ (b s c z : List ℕ) (x y : Status) where
-  pub both_none : x ≡ Absent → y ≡ Absent → true ≡ same_status (status_at b s x) (status_at c z y)
+module _ (b s c z : List ℕ) (x y : Option Place) where
+  pub both_none : x ≡ None → y ≡ None → true ≡ same_status (status_at b s x) (status_at c z y)
   unfolding same_status
   both_none e f = rw (e, f)
 
-  pub second_some : (q : Place) → x ≡ Absent → y ≡ At q → false ≡ same_status (status_at b s x) (status_at c z y)
+  pub second_some : (q : Place) → x ≡ None → y ≡ Some q → false ≡ same_status (status_at b s x) (status_at c z y)
   unfolding same_status
   second_some q e f = rw (e, f)
 
-  pub first_some : (p : Place) → x ≡ At p → y ≡ Absent → false ≡ same_status (status_at b s x) (status_at c z y)
+  pub first_some : (p : Place) → x ≡ Some p → y ≡ None → false ≡ same_status (status_at b s x) (status_at c z y)
   unfolding same_status
   first_some p e f = rw (e, f)
 
-  pub both_some : (p q : Place) → x ≡ At p → y ≡ At q → (k l : List ℕ) → k ≡ at b s p → l ≡ at c z q → (r : Bool) → r ≡ same_list k l → r ≡ same_status (status_at b s x) (status_at c z y)
+  pub both_some : (p q : Place) → x ≡ Some p → y ≡ Some q → (k l : List ℕ) → k ≡ at b s p → l ≡ at c z q → (r : Bool) → r ≡ same_list k l → r ≡ same_status (status_at b s x) (status_at c z y)
   unfolding same_status
   both_some p q e f k l ke le r h = rw (e, f, ← ke, ← le) h

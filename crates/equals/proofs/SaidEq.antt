@@ -1,8 +1,8 @@
 -- Maps that compare the same are those that say the same. Assumes nothing.
+use Rattle.std.specs.Prelude.{None, Option, Some}
 use mathlib.Core.Path.{◌≡◌, refl, sym, ap, ◌∙◌}
 use mathlib.Core.Bool.{true, ◌&&◌, false≢true}
 use mathlib.Core.List.{List, [], ◌∷◌}
-use mathlib.Core.Option.{Option, none, some}
 use Prim.Native.Nat.{ℕ}
 use Rattle.leaves.proofs.ChoiceLaws.{and_left, and_right}
 use Rattle.leaves.specs.Octets.{same_list}
@@ -31,15 +31,15 @@ pairs_refl (p ∷ ps) = rw (same_list_refl p.key, same_list_refl p.value) (pairs
 
 status_eq : (x y : Option (List ℕ)) → same_status x y ≡ true → x ≡ y
 unfolding same_status
-status_eq none none e = refl
-status_eq none (some y) e = absurd (false≢true e)
-status_eq (some x) none e = absurd (false≢true e)
-status_eq (some x) (some y) e = ap some (same_list_eq x y e)
+status_eq None None e = refl
+status_eq None (Some y) e = absurd (false≢true e)
+status_eq (Some x) None e = absurd (false≢true e)
+status_eq (Some x) (Some y) e = ap Some (same_list_eq x y e)
 
 status_refl : (x : Option (List ℕ)) → same_status x x ≡ true
 unfolding same_status
-status_refl none = refl
-status_refl (some x) = same_list_refl x
+status_refl None = refl
+status_refl (Some x) = same_list_refl x
 
 pub said_eq : (x y : Said) → same_said x y ≡ true → x ≡ y
 unfolding same_said

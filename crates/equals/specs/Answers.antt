@@ -1,12 +1,11 @@
 -- Equality's answer as a number. Assumes nothing.
-use Rattle.std.specs.Prelude.{ℕ}
+use Rattle.leaves.specs.declared.refusals.Refusal.{Refusal}
+use Rattle.std.specs.Prelude.{ℕ, Bool, Err, Ok, Result, false, true}
 use Rattle.leaves.specs.Numbers.{yes, other}
 use Rattle.leaves.specs.Refusals.{number}
-use Rattle.equals.specs.declared.Equal.{Equal}
-use Rattle.equals.specs.declared.Equal.TheVariants.{Yes, No, Refused}
 
 -- "Map equality compares status, keys and values by octets"
-abbrev pub told : Equal → ℕ
-told Yes = yes
-told No = other
-told (Refused e) = number e
+abbrev pub told : Result Bool Refusal → ℕ
+told (Ok true) = yes
+told (Ok false) = other
+told (Err e) = number e

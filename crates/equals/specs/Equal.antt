@@ -1,13 +1,11 @@
 -- Map equality: maps that say the same. Assumes nothing.
-use Rattle.std.specs.Prelude.{Bool, true, false, ◌&&◌, List, [], ◌∷◌, ℕ}
-use Rattle.std.proofs.Math.Option.{Option, none, some}
+use Rattle.leaves.specs.declared.refusals.Refusal.{Refusal}
+use Rattle.std.specs.Prelude.{Bool, true, false, ◌&&◌, List, [], ◌∷◌, ℕ, Err, None, Ok, Option, Result, Some}
 use Rattle.leaves.specs.Octets.{same_list}
 use Rattle.leaves.specs.Choice.{when◌then◌else◌}
 use Rattle.maps.specs.Good.{checked_done, unless}
 use Rattle.maps.specs.declared.HeaderMap.{HeaderMap}
 use Rattle.maps.specs.Said.{Pair, Said, saying}
-use Rattle.equals.specs.declared.Equal.{Equal}
-use Rattle.equals.specs.declared.Equal.TheVariants.{Yes, No, Refused}
 
 -- "keys and values by octets"
 unfoldable pub same_pairs : List Pair → List Pair → Bool
@@ -18,16 +16,16 @@ same_pairs (p ∷ ps) (q ∷ qs) = same_list p.key q.key && (same_list p.value q
 
 -- "absent and empty status differing"
 unfoldable pub same_status : Option (List ℕ) → Option (List ℕ) → Bool
-same_status none none = true
-same_status none (some y) = false
-same_status (some x) none = false
-same_status (some x) (some y) = same_list x y
+same_status None None = true
+same_status None (Some y) = false
+same_status (Some x) None = false
+same_status (Some x) (Some y) = same_list x y
 
 -- "Map equality compares status, keys and values by octets, absent and empty status differing."
 unfoldable pub same_said : Said → Said → Bool
 same_said x y = same_status x.status y.status && same_pairs x.pairs y.pairs
 
 -- "With two maps the first is checked whole before the second."
-unfoldable pub comparing : HeaderMap → List ℕ → List ℕ → HeaderMap → List ℕ → List ℕ → Equal
+unfoldable pub comparing : HeaderMap → List ℕ → List ℕ → HeaderMap → List ℕ → List ℕ → Result Bool Refusal
 comparing m b s k c z =
-    unless (checked_done m b s) Refused (unless (checked_done k c z) Refused (when same_said (saying m b s) (saying k c z) then Yes else No))
+    unless (checked_done m b s) Err (unless (checked_done k c z) Err (when same_said (saying m b s) (saying k c z) then Ok true else Ok false))

@@ -6,15 +6,9 @@ ghost use Rattle.leaves.specs.Octets.{same_list};
 ghost use Rattle.maps.specs.Said.{pair_at, status_at};
 ghost use Rattle.equals.specs.Equal.{same_pairs, same_status, comparing};
 
+use maps::Place;
 use leaves::refusals::Refusal;
-use maps::{Checked, Field, HeaderMap, Status};
-
-#[derive(Clone, Copy)]
-pub enum Equal {
-    Yes,
-    No,
-    Refused(Refusal),
-}
+use maps::{Field, HeaderMap};
 
 // Whether two texts are the same, octet by octet.
 pub fn same_octets(a: &[u8], b: &[u8]) -> bool
@@ -72,17 +66,17 @@ fn same_fields<'a>(
 }
 
 // Whether two maps' status is the same: absent is not empty.
-fn same_status<'a>(x: Status, y: Status, b: &'a [u8], s: &'a [u8], c: &'a [u8], z: &'a [u8]) -> bool
+fn same_status<'a>(x: Option<Place>, y: Option<Place>, b: &'a [u8], s: &'a [u8], c: &'a [u8], z: &'a [u8]) -> bool
     ensures { result ≡ same_status (status_at b.now s.now x) (status_at c.now z.now y) }
 {
     match x {
-        Status::Absent => match y {
-            Status::Absent => true,
-            Status::At(q) => false,
+        None => match y {
+            None => true,
+            Some(q) => false,
         },
-        Status::At(p) => match y {
-            Status::Absent => false,
-            Status::At(q) => {
+        Some(p) => match y {
+            None => false,
+            Some(q) => {
                 let k = maps::part(b, s, p);
                 let l = maps::part(c, z, q);
                 same_octets(k, l)
@@ -99,15 +93,15 @@ pub fn compare<'a>(
     k: HeaderMap,
     c: &'a [u8],
     z: &'a [u8],
-) -> Equal
+) -> Result<bool, Refusal>
     ensures { result ≡ comparing m b.now s.now k c.now z.now }
 {
     let one = maps::check_done(m, b, s);
     match one {
-        Checked::Fine => {
+        Ok(()) => {
             let two = maps::check_done(k, c, z);
             match two {
-                Checked::Fine => {
+                Ok(()) => {
                     let n = m.fields;
                     if n == k.fields {
                         let x = m.status;
@@ -116,15 +110,15 @@ pub fn compare<'a>(
                             let t = m.table;
                             let u = k.table;
                             if same_fields(t, u, n, b, s, c, z) {
-                                return Equal::Yes;
+                                return Ok(true);
                             }
                         }
                     }
-                    Equal::No
+                    Ok(false)
                 }
-                Checked::Refused(x) => Equal::Refused(x),
+                Err(x) => Err(x),
             }
         }
-        Checked::Refused(x) => Equal::Refused(x),
+        Err(x) => Err(x),
     }
 }

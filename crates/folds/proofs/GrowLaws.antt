@@ -1,4 +1,6 @@
 -- What the code of a fold and of a split makes of the store. Assumes nothing.
+use Rattle.leaves.specs.declared.refusals.Refusal.{Refusal}
+use Rattle.std.specs.Prelude.{Err, Ok, Result}
 use mathlib.Core.Path.{◌≡◌, refl, sym, ap, ◌∙◌}
 use mathlib.Core.Bool.{Bool, true, false}
 use mathlib.Core.List.{List, [], ◌∷◌, ◌++◌}
@@ -24,26 +26,26 @@ use Rattle.maps.specs.declared.Place.{Place}
 use Rattle.maps.specs.declared.Place.TheVariants.{Block, Store}
 use Rattle.leaves.specs.declared.refusals.Refusal.TheVariants.{StoreFull, FieldsFull}
 use Rattle.folds.specs.declared.Change.{Change}
-use Rattle.folds.specs.declared.Change.TheVariants.{Nothing, Status as Headed, Put, Refused as Stops}
+use Rattle.folds.specs.declared.Change.TheVariants.{Nothing, Status as Headed, Put}
 use Rattle.folds.proofs.ListLaws.{pasted_none}
 
 pub tail_pasted : (s : List ℕ) (at : ℕ) (t : List ℕ) → at < length s → pasted (set s at 32) (at + 1) t ≡ pasted s at (32 ∷ t)
 tail_pasted s at t h = ap (λ (l : List ℕ). pasted l (at + 1) t) (set_pasted s at 32 h) ∙ pasted_more s (32 ∷ []) t at (omega arith)
 
 pub grown_full : (s : List ℕ) (room slot : ℕ) (key : Place) (from mark : ℕ) (new : List ℕ) (k : ℕ) → k ≡ length new → mark ≤ room → room - mark < k
-    → Changes (grown room slot key from mark new) s mark s (Stops StoreFull)
+    → Changes (grown room slot key from mark new) s mark s (Err StoreFull)
 unfolding grown
 grown_full s room slot key from mark new k e h l =
     let q : leb (mark + length new) room ≡ false = lt-leb (mark + length new) room (omega arith) in
-    rw (if_false (record { change = put_field slot key from (mark + length new); new = new }) (plain (Stops StoreFull)) q) (record { is = refl; wrote = sym (pasted_none s mark) })
+    rw (if_false (record { change = put_field slot key from (mark + length new); new = new }) (plain (Err StoreFull)) q) (record { is = refl; wrote = sym (pasted_none s mark) })
 
-pub grown_fits : (s : List ℕ) (room slot : ℕ) (key : Place) (from mark : ℕ) (new : List ℕ) (k : ℕ) (s' : List ℕ) (r : Change) → k ≡ length new → mark ≤ room → k ≤ room - mark
+pub grown_fits : (s : List ℕ) (room slot : ℕ) (key : Place) (from mark : ℕ) (new : List ℕ) (k : ℕ) (s' : List ℕ) (r : Result Change Refusal) → k ≡ length new → mark ≤ room → k ≤ room - mark
     → r ≡ put_field slot key from (mark + k) → s' ≡ pasted s mark new
     → Changes (grown room slot key from mark new) s mark s' r
 unfolding grown
 grown_fits s room slot key from mark new k s' r e h l p w =
     let q : leb (mark + length new) room ≡ true = le-leb (mark + length new) room (omega arith) in
-    rw (if_true (record { change = put_field slot key from (mark + length new); new = new }) (plain (Stops StoreFull)) q) (record { is = p ∙ rw e; wrote = w })
+    rw (if_true (record { change = put_field slot key from (mark + length new); new = new }) (plain (Err StoreFull)) q) (record { is = p ∙ rw e; wrote = w })
 
 pub grow_twice : (s old t s₁ s₂ : List ℕ) (mark n : ℕ) → n ≡ length old → mark + n ≤ length s → s₁ ≡ pasted s mark old → s₂ ≡ pasted s₁ (mark + n) (32 ∷ t) → s₂ ≡ pasted s mark (old ++ 32 ∷ t)
 grow_twice s old t s₁ s₂ mark n e h p q = q ∙ rw (p, e) (pasted_more s old (32 ∷ t) mark (omega arith))
@@ -57,15 +59,15 @@ length_joined old t n e = omega (arith, length-append old (32 ∷ t))
 -- the three ends of a split
 module _ (n : ℕ) (l : List ℕ) (fields mark c : ℕ) (e : c ≡ before 58 l) where
   pub split_put : c < length l → fields < 256
-      → split n l fields mark ≡ plain (Put fields (read_field (trimmed_at n (take c l)) (trimmed_at (n + (c + 1)) (drop (c + 1) l))) mark)
+      → split n l fields mark ≡ plain (Ok (Put fields (read_field (trimmed_at n (take c l)) (trimmed_at (n + (c + 1)) (drop (c + 1) l))) mark))
   unfolding split
   split_put h k = if_true _ _ (rw (← e) (lt-ltb c (length l) h)) ∙ if_true _ _ (lt-ltb fields 256 k) ∙ rw e
 
-  pub split_full : c < length l → 256 ≤ fields → split n l fields mark ≡ plain (Stops FieldsFull)
+  pub split_full : c < length l → 256 ≤ fields → split n l fields mark ≡ plain (Err FieldsFull)
   unfolding split
   split_full h k = if_true _ _ (rw (← e) (lt-ltb c (length l) h)) ∙ if_false _ _ (le-ltb fields 256 k)
 
-  pub split_none : length l ≤ c → split n l fields mark ≡ plain Nothing
+  pub split_none : length l ≤ c → split n l fields mark ≡ plain (Ok Nothing)
   unfolding split
   split_none h = if_false _ _ (rw (← e) (le-ltb c (length l) h))
 
@@ -103,7 +105,7 @@ store_fits (lies_in_store x y i j) = (i, j)
 
 -- the three cases of a line
 module _ (room : ℕ) (block : List ℕ) (n : ℕ) (awaits : Bool) (fields : ℕ) (last : Field) (mark : ℕ) (store : List ℕ) where
-  pub rule4_head : awaits ≡ true → rule4 room block n awaits fields last mark store ≡ plain (Headed (trimmed_at n (drop n block)))
+  pub rule4_head : awaits ≡ true → rule4 room block n awaits fields last mark store ≡ plain (Ok (Headed (trimmed_at n (drop n block))))
   unfolding rule4
   rule4_head e = if_true _ _ e
 
@@ -118,5 +120,5 @@ module _ (room : ℕ) (block : List ℕ) (n : ℕ) (awaits : Bool) (fields : ℕ
   rule4_split e q = if_false _ _ e ∙ if_false _ _ q
 
 -- a change that leaves the store
-pub plain_change : (s : List ℕ) (mark : ℕ) (g : Ruling) (c : Change) → g ≡ plain c → Changes g s mark s c
+pub plain_change : (s : List ℕ) (mark : ℕ) (g : Ruling) (c : Result Change Refusal) → g ≡ plain c → Changes g s mark s c
 plain_change s mark g c e = rw e (record { is = refl; wrote = sym (pasted_none s mark) })

@@ -1,5 +1,6 @@
 -- What the code of rule 4 asks of its callers, and what it gives. Assumes nothing.
-use Rattle.std.specs.Prelude.{◌≡◌, List, ℕ, ◌+◌, ◌-◌, ◌≤◌, ◌<◌, length}
+use Rattle.leaves.specs.declared.refusals.Refusal.{Refusal}
+use Rattle.std.specs.Prelude.{◌≡◌, List, ℕ, ◌+◌, ◌-◌, ◌≤◌, ◌<◌, length, Ok, Result}
 use Rattle.leaves.specs.Paste.{pasted}
 use Rattle.folds.specs.Rule.{Ruling}
 use Rattle.maps.specs.Good.{Fits}
@@ -18,7 +19,7 @@ pub record FoldReady (block store : List ℕ) (start count : ℕ) (last : Field)
   pub few : fields ≤ 256
   pub value : 0 < fields → Fits count mark last.value
 
-pub record Changes (g : Ruling) (s : List ℕ) (mark : ℕ) (s' : List ℕ) (r : Change) : Type 0 where
+pub record Changes (g : Ruling) (s : List ℕ) (mark : ℕ) (s' : List ℕ) (r : Result Change Refusal) : Type 0 where
   pub is : r ≡ g.change
   pub wrote : s' ≡ pasted s mark g.new
 
@@ -34,5 +35,5 @@ pub record Folding (block store text : List ℕ) (last : Field) (fields room mar
   pub value : 0 < fields → Fits (length block) mark last.value
 
 -- the field of a line of k octets at n in the block: c octets, a colon, a space, the value, CR and LF
-abbrev pub put_tight : ℕ → ℕ → ℕ → ℕ → ℕ → Change
-put_tight n c k fields mark = Put fields (read_field (in_block n (n + c)) (in_block (n + (c + 2)) (n + (k - 2)))) mark
+abbrev pub put_tight : ℕ → ℕ → ℕ → ℕ → ℕ → Result Change Refusal
+put_tight n c k fields mark = Ok (Put fields (read_field (in_block n (n + c)) (in_block (n + (c + 2)) (n + (k - 2)))) mark)

@@ -1,5 +1,6 @@
 -- What a line does: rules 3 and 4 of document 01. Assumes nothing.
-use Rattle.std.specs.Prelude.{Bool, false, ◌||◌, List, [], ◌∷◌, ◌++◌, ℕ, ◌+◌, ◌-◌, eqb, ltb, leb, length, take, drop}
+use Rattle.leaves.specs.declared.refusals.Refusal.{Refusal}
+use Rattle.std.specs.Prelude.{Bool, false, ◌||◌, List, [], ◌∷◌, ◌++◌, ℕ, ◌+◌, ◌-◌, eqb, ltb, leb, length, take, drop, Err, Ok, Result}
 use Rattle.leaves.specs.Choice.{when◌then◌else◌}
 use Rattle.leaves.specs.Class.{blank}
 use Rattle.leaves.specs.Trim.{trim_end, trim_start, trimmed}
@@ -10,7 +11,7 @@ use Rattle.maps.specs.declared.Field.{Field}
 use Rattle.maps.specs.declared.Place.{Place}
 use Rattle.maps.specs.declared.Place.TheVariants.{Block, Store}
 use Rattle.folds.specs.declared.Change.{Change}
-use Rattle.folds.specs.declared.Change.TheVariants.{Nothing, Status as Headed, Put, Refused as Stops}
+use Rattle.folds.specs.declared.Change.TheVariants.{Nothing, Status as Headed, Put}
 
 -- the place of the blank-free part of l, which stands in the block at n; "A blank side or status is the empty range at its start."
 abbrev pub trimmed_at : ℕ → List ℕ → Place
@@ -27,23 +28,23 @@ ends_block quirks l = when quirks then all blank l else same_list l (13 ∷ 10 �
 
 -- what a line does, and the octets that it puts at the store's mark
 pub record Ruling : Type 0 where
-  pub change : Change
+  pub change : Result Change Refusal
   pub new : List ℕ
 
 -- nothing is put into the store
-abbrev pub plain : Change → Ruling
+abbrev pub plain : Result Change Refusal → Ruling
 plain c = record { change = c; new = [] }
 
 -- a field in a slot whose value lies in the store and ends at the new mark
-abbrev pub put_field : ℕ → Place → ℕ → ℕ → Change
-put_field slot key from to = Put slot (read_field key (in_store from to)) to
+abbrev pub put_field : ℕ → Place → ℕ → ℕ → Result Change Refusal
+put_field slot key from to = Ok (Put slot (read_field key (in_store from to)) to)
 
 -- new octets at the mark, if they fit, that end the value of the field in a slot; "mark plus new octets exceed the room" is 6
 unfoldable pub grown : ℕ → ℕ → Place → ℕ → ℕ → List ℕ → Ruling
 grown room slot key from mark new =
     when leb (mark + length new) room
     then record { change = put_field slot key from (mark + length new); new = new }
-    else plain (Stops (refusal 6))
+    else plain (Err (refusal 6))
 
 -- "The first fold of a value copies it to the store .. ; a store value ending at the mark grows there, one ending elsewhere is copied
 -- again."
@@ -65,14 +66,14 @@ split n l fields mark =
     when ltb (before 58 l) (length l)
     then (
     when ltb fields 256
-    then plain (Put fields (read_field (trimmed_at n (take (before 58 l) l)) (trimmed_at (n + (before 58 l + 1)) (drop (before 58 l + 1) l))) mark)
-    else plain (Stops (refusal 5)))
-    else plain Nothing
+    then plain (Ok (Put fields (read_field (trimmed_at n (take (before 58 l) l)) (trimmed_at (n + (before 58 l + 1)) (drop (before 58 l + 1) l))) mark))
+    else plain (Err (refusal 5)))
+    else plain (Ok Nothing)
 
 -- rule 4, for the line of the block that begins at n: "if a status line is expected, the trimmed line is the status. Else, if it
 -- starts with space or tab", a fold; else a split
 unfoldable pub rule4 : ℕ → List ℕ → ℕ → Bool → ℕ → Field → ℕ → List ℕ → Ruling
 rule4 room block n awaits fields last mark store =
-    when awaits then plain (Headed (trimmed_at n (drop n block)))
+    when awaits then plain (Ok (Headed (trimmed_at n (drop n block))))
     else when continues (drop n block) then folded room block fields last mark store (trimmed (drop n block))
     else split n (drop n block) fields mark

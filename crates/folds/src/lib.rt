@@ -19,7 +19,6 @@ pub enum Change {
     Nothing,
     Status(Place),
     Put(usize, Field, usize),
-    Refused(Refusal),
 }
 
 // Whether a line ends the block.
@@ -72,7 +71,7 @@ fn colon(line: &[u8]) -> usize
 }
 
 // A line that is no continuation: a field, or nothing.
-fn name_line(line: &[u8], start: usize, fields: usize, mark: usize) -> Change
+fn name_line(line: &[u8], start: usize, fields: usize, mark: usize) -> Result<Change, Refusal>
     requires { start + length line.now ≤ 65536 }
     ensures { split start line.now fields mark ≡ plain result }
 {
@@ -82,11 +81,11 @@ fn name_line(line: &[u8], start: usize, fields: usize, mark: usize) -> Change
             let after = c + 1;
             let key = trimmed_place(&line[..c], start);
             let value = trimmed_place(&line[after..], start + after);
-            return Change::Put(fields, Field { key, value }, mark);
+            return Ok(Change::Put(fields, Field { key, value }, mark));
         }
-        return Change::Refused(Refusal::FieldsFull);
+        return Err(Refusal::FieldsFull);
     }
-    Change::Nothing
+    Ok(Change::Nothing)
 }
 
 // Writes a text into the store at a place.
@@ -120,12 +119,12 @@ fn put_tail(store: &mut [u8], at: usize, text: &[u8])
     copy_at(store, at + 1, text);
 }
 
-fn put_field(slot: usize, key: Place, from: usize, to: usize) -> Change
+fn put_field(slot: usize, key: Place, from: usize, to: usize) -> Result<Change, Refusal>
     requires { (from ≤ 65536) × (to ≤ 65536) }
     ensures { result ≡ put_field slot key from to }
 {
     let value = maps::in_store(from, to);
-    Change::Put(slot, Field { key, value }, to)
+    Ok(Change::Put(slot, Field { key, value }, to))
 }
 
 // The text as a new value at the mark.
@@ -136,13 +135,13 @@ fn grow_new(
     key: Place,
     mark: usize,
     text: &[u8],
-) -> Change
+) -> Result<Change, Refusal>
     requires { Roomy store.old room mark }
     ensures { Changes (grown room slot key mark mark text.now) store.old mark store.new result }
 {
     let k = text.len();
     if room - mark < k {
-        return Change::Refused(Refusal::StoreFull);
+        return Err(Refusal::StoreFull);
     }
     copy_at(store, mark, text);
     put_field(slot, key, mark, mark + k)
@@ -157,13 +156,13 @@ fn grow_here(
     from: usize,
     mark: usize,
     text: &[u8],
-) -> Change
+) -> Result<Change, Refusal>
     requires { Roomy store.old room mark × (from ≤ mark) × (length text.now ≤ 65536) }
     ensures { Changes (grown room slot key from mark (32 ∷ text.now)) store.old mark store.new result }
 {
     let k = 1 + text.len();
     if room - mark < k {
-        return Change::Refused(Refusal::StoreFull);
+        return Err(Refusal::StoreFull);
     }
     put_tail(store, mark, text);
     put_field(slot, key, from, mark + k)
@@ -178,14 +177,14 @@ fn grow_copy(
     mark: usize,
     old: &[u8],
     text: &[u8],
-) -> Change
+) -> Result<Change, Refusal>
     requires { Roomy store.old room mark × (length old.now ≤ 65536) × (length text.now ≤ 65536) }
     ensures { Changes (grown room slot key mark mark (old.now ++ (32 ∷ text.now))) store.old mark store.new result }
 {
     let n = old.len();
     let k = n + (1 + text.len());
     if room - mark < k {
-        return Change::Refused(Refusal::StoreFull);
+        return Err(Refusal::StoreFull);
     }
     copy_at(store, mark, old);
     put_tail(store, mark + n, text);
@@ -202,14 +201,14 @@ fn grow_again(
     end: usize,
     mark: usize,
     text: &[u8],
-) -> Change
+) -> Result<Change, Refusal>
     requires { Roomy store.old room mark × (from ≤ «end») × («end» ≤ mark) × (length text.now ≤ 65536) }
     ensures { Changes (grown room slot key mark mark (part from «end» (take mark store.old) ++ (32 ∷ text.now))) store.old mark store.new result }
 {
     let n = end - from;
     let k = n + (1 + text.len());
     if room - mark < k {
-        return Change::Refused(Refusal::StoreFull);
+        return Err(Refusal::StoreFull);
     }
     copy_within(store, from, end, mark);
     put_tail(store, mark + n, text);
@@ -225,7 +224,7 @@ fn fold_line(
     fields: usize,
     room: usize,
     mark: usize,
-) -> Change
+) -> Result<Change, Refusal>
     requires { Folding block.now store.old text.now last fields room mark }
     ensures { Changes (folded room block.now fields last mark (take mark store.old) text.now) store.old mark store.new result }
 {
@@ -265,14 +264,14 @@ pub fn rule_four(
     fields: usize,
     room: usize,
     mark: usize,
-) -> Change
+) -> Result<Change, Refusal>
     requires { FoldReady block.now store.old start count last fields room mark }
     ensures { Changes (rule4 room (take count block.now) start awaits fields last mark (take mark store.old)) store.old mark store.new result }
 {
     let whole = &block[..count];
     let line = &whole[start..];
     if awaits {
-        return Change::Status(trimmed_place(line, start));
+        return Ok(Change::Status(trimmed_place(line, start)));
     }
     if is_fold(line) {
         let text = trims::trim(line);
@@ -296,13 +295,13 @@ fn is_tight_field(line: &[u8], c: usize, awaits: bool, fields: usize) -> bool
 }
 
 // The field of a tight line of n octets that stands in the block at start, with its colon at c.
-fn tight_field(start: usize, c: usize, n: usize, fields: usize, mark: usize) -> Change
+fn tight_field(start: usize, c: usize, n: usize, fields: usize, mark: usize) -> Result<Change, Refusal>
     requires { (c + 5 ≤ n) × (start + n ≤ 65536) }
     ensures { result ≡ put_tight start c n fields mark }
 {
     let key = maps::in_block(start, start + c);
     let value = maps::in_block(start + (c + 2), start + (n - 2));
-    Change::Put(fields, Field { key, value }, mark)
+    Ok(Change::Put(fields, Field { key, value }, mark))
 }
 
 // What rule_four does, told where the line's first colon is: nearly every line is tight and needs no search for its blanks.
@@ -317,7 +316,7 @@ pub fn line_change(
     fields: usize,
     room: usize,
     mark: usize,
-) -> Change
+) -> Result<Change, Refusal>
     requires { FoldReady block.now store.old start count last fields room mark × (c ≡ before 58 (drop start (take count block.now))) }
     ensures { Changes (rule4 room (take count block.now) start awaits fields last mark (take mark store.old)) store.old mark store.new result }
 {

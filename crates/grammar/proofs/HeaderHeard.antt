@@ -1,8 +1,8 @@
 -- The lines of a grammatical header are heard as its version and its fields. Assumes nothing.
+use Rattle.std.specs.Prelude.{Option, Some}
 use mathlib.Core.Path.{◌≡◌, refl, sym, ◌∙◌, ap, subst}
 use mathlib.Core.Bool.{Bool, true, false, ◌&&◌, ◌||◌, false≢true}
 use mathlib.Core.List.{List, [], ◌∷◌, ◌++◌, map, append_assoc, append-nil}
-use mathlib.Core.Option.{Option, some}
 use Prim.Native.Nat.{ℕ, ◌+◌}
 use native.Mathlib.Nat.{add-zero}
 use native.Mathlib.Omega.{arith}
@@ -140,7 +140,7 @@ version_plain v t = go (same_list v (octets "WARC/1.0")) refl t
 
 -- a header says its version and its fields, and its last line ends the block
 pub header_heard : (h : Header) → is_header h ≡ true
-    → listening false (silent true) (header_lines h) ≡ over (length (header_lines h)) (hearing (some h.version) (map pair_of h.entries))
+    → listening false (silent true) (header_lines h) ≡ over (length (header_lines h)) (hearing (Some h.version) (map pair_of h.entries))
 unfolding is_header header_lines
 header_heard h e =
     let v = h.version in
@@ -150,5 +150,5 @@ header_heard h e =
     let w : List ℕ = entry_lines es ++ crlf in
     let z : 0 + length v + 2 + length w ≡ length (v ++ (crlf ++ w)) = omega (arith, length-append v (crlf ++ w)) in
     line_on false v w 0 _ p.lf p.on ∙
-    ap (λ (g : Hearing). listening false (between (0 + length v + 2) g) w) (heard_status (v ++ crlf) _ ∙ ap (λ (t : List ℕ). hearing (some t) []) (trim_line v ∙ p.trim)) ∙
-    lines_heard (some v) es (0 + length v + 2) (and_right right (are_entries es) e) ∙ ap (λ (j : ℕ). over j (hearing (some v) (map pair_of es))) z
+    ap (λ (g : Hearing). listening false (between (0 + length v + 2) g) w) (heard_status (v ++ crlf) _ ∙ ap (λ (t : List ℕ). hearing (Some t) []) (trim_line v ∙ p.trim)) ∙
+    lines_heard (Some v) es (0 + length v + 2) (and_right right (are_entries es) e) ∙ ap (λ (j : ℕ). over j (hearing (Some v) (map pair_of es))) z

@@ -1,8 +1,8 @@
 -- The reading of a grammatical header gives its version and its fields. Assumes nothing.
+use Rattle.std.specs.Prelude.{Some}
 use mathlib.Core.Path.{◌≡◌, sym, subst}
 use mathlib.Core.Bool.{Bool, true, false}
 use mathlib.Core.List.{List, map}
-use mathlib.Core.Option.{some}
 use Prim.Native.Nat.{ℕ, ◌≤◌}
 use native.Mathlib.Omega.{arith}
 use lib.ListN.{length, length-map}
@@ -23,7 +23,7 @@ module _ (R : Rules) (calm : R.quirks ≡ false) (roomy : R.limit ≤ R.room) wh
   unfolding told
   header_reads h e n z =
       heard_gives R roomy true (header_lines h) (told h)
-      (subst (λ (q : Bool). listening q (silent true) (header_lines h) ≡ over (length (header_lines h)) (hearing (some h.version) (map pair_of h.entries))) (sym calm) (header_heard h e)) z
+      (subst (λ (q : Bool). listening q (silent true) (header_lines h) ≡ over (length (header_lines h)) (hearing (Some h.version) (map pair_of h.entries))) (sym calm) (header_heard h e)) z
       (omega (arith, n, length-map h.entries pair_of))
 
   pub grammatical_reads : (l : List ℕ) (g : Grammatical l) → length g.header.entries ≤ 256 → length l ≤ R.limit

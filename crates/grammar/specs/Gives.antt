@@ -1,6 +1,5 @@
 -- What the reading of a grammatical header gives. Assumes nothing.
-use Rattle.std.specs.Prelude.{List, [], ◌∷◌, ◌++◌, map, ℕ}
-use Rattle.std.proofs.Math.Option.{some}
+use Rattle.std.specs.Prelude.{List, [], ◌∷◌, ◌++◌, map, ℕ, Some}
 use Rattle.leaves.specs.Trim.{trimmed}
 use Rattle.maps.specs.Said.{Pair, Said}
 use Rattle.grammar.specs.Grammar.{Fold, Entry, Header}
@@ -16,4 +15,4 @@ pair_of e = record { key = e.key; value = folded_on (trimmed e.text) e.folds }
 
 -- "Read with status expected and no quirks, values are rule 4's": the status is the version, the fields stand in order
 unfoldable pub told : Header → Said
-told h = record { status = some h.version; pairs = map pair_of h.entries }
+told h = record { status = Some h.version; pairs = map pair_of h.entries }

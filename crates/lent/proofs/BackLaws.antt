@@ -1,4 +1,6 @@
 -- A map is the one that its numbers stand for, and they are a map's. Assumes nothing.
+use Rattle.maps.specs.declared.Place.{Place}
+use Rattle.std.specs.Prelude.{None, Option, Some}
 use mathlib.Core.Path.{◌≡◌, refl, sym, ap, ◌∙◌}
 use mathlib.Core.Bool.{Bool, true, false}
 use mathlib.Core.List.{List, [], ◌∷◌}
@@ -13,8 +15,6 @@ use Rattle.maps.specs.Good.{lies_in_block, lies_in_store, FitAll, fit_none, fit_
 use Rattle.maps.specs.Heads.{under, head_of as headIn}
 use Rattle.maps.specs.declared.Place.TheVariants.{Block, Store}
 use Rattle.maps.specs.declared.Field.{Field}
-use Rattle.maps.specs.declared.Status.{Status}
-use Rattle.maps.specs.declared.Status.TheVariants.{Absent, At}
 use Rattle.maps.specs.declared.Phase.{Phase}
 use Rattle.maps.specs.declared.Phase.TheVariants.{Reading, Done}
 use Rattle.maps.specs.declared.Head.{Head}
@@ -63,11 +63,11 @@ pub table_back : (xs : List Field) → length xs ≡ 256 → FitAll 65536 65536 
 table_back xs h w = ap (fields_from (numbers_of xs) 0) (sym h) ∙ fields_back xs w
 
 -- the parts of a head
-status_back : (s : Status) → status_of (status_kind s) (status_from s) (status_to s) ≡ s
+status_back : (s : Option Place) → status_of (status_kind s) (status_from s) (status_to s) ≡ s
 unfolding status_of when◌then◌else◌
-status_back Absent = refl
-status_back (At (Block a e)) = refl
-status_back (At (Store a e)) = refl
+status_back None = refl
+status_back (Some (Block a e)) = refl
+status_back (Some (Store a e)) = refl
 
 flag_back : (b : Bool) → eqb (flag_of b) 1 ≡ b
 flag_back true = refl
@@ -83,14 +83,14 @@ pub head_back : (h : Head) → head_of (head_numbers h) ≡ h
 head_back h = rw (status_back h.status, flag_back h.awaits, flag_back h.quirks, flag_back h.edited, phase_back h.phase)
 
 -- and its numbers are a head's
-status_sound : (s : Status) → FitStatus 65536 65536 s → sound_status (status_kind s) (status_from s) (status_to s) ≡ true
+status_sound : (s : Option Place) → FitStatus 65536 65536 s → sound_status (status_kind s) (status_from s) (status_to s) ≡ true
 unfolding sound_status when◌then◌else◌
-status_sound Absent fit_absent = refl
-status_sound (At _) (fit_at (lies_in_block x y l h)) =
+status_sound None fit_absent = refl
+status_sound (Some _) (fit_at (lies_in_block x y l h)) =
     let a : x < 4294967296 = omega (arith, l, h) in
     let b : y < 4294967296 = omega (arith, h) in
     and_both _ _ (lt-ltb _ _ a) (lt-ltb _ _ b)
-status_sound (At _) (fit_at (lies_in_store x y l h)) =
+status_sound (Some _) (fit_at (lies_in_store x y l h)) =
     let a : x < 4294967296 = omega (arith, l, h) in
     let b : y < 4294967296 = omega (arith, h) in
     and_both _ _ (lt-ltb _ _ a) (lt-ltb _ _ b)

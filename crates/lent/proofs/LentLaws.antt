@@ -1,4 +1,5 @@
 -- Laws of a map in lent numbers: its fields, a field put, the numbers got back, of a table and of a head. Assumes nothing.
+use Rattle.std.specs.Prelude.{None, Ok, Some}
 use mathlib.Core.Path.{◌≡◌, refl, sym, ap, ◌∙◌}
 use mathlib.Core.Logic.{◌≢◌}
 use mathlib.Core.Bool.{Bool, true, false, ◌&&◌}
@@ -19,11 +20,9 @@ use Rattle.maps.specs.Good.{Fits, lies_in_block, lies_in_store, Fit, good_place,
 use Rattle.maps.proofs.GoodLaws.{and_stop}
 use Rattle.maps.specs.declared.Place.{Place}
 use Rattle.maps.specs.declared.Field.{Field}
-use Rattle.maps.specs.declared.Status.TheVariants.{Absent, At as Stands}
 use Rattle.maps.specs.declared.Phase.{Phase}
 use Rattle.maps.specs.declared.Phase.TheVariants.{Reading, Done}
 use Rattle.maps.specs.declared.Head.{Head}
-use Rattle.lookups.specs.declared.Found.TheVariants.{Nth, Missing}
 use Rattle.lookups.specs.Lookups.{seeking}
 use Rattle.lent.specs.Table.{store_mark, place_of, good_stored, from_of, to_of, place_at, field_at, fields_from, table_of, numbers_of, place_put, field_put, live_in}
 use Rattle.lent.specs.Numbers.{flag_of, phase_number, status_kind, status_from, status_to, head_numbers, status_of, phase_of, head_of, sound_status, sound_head, sound_map}
@@ -39,7 +38,7 @@ module _ (t : List ℕ) (n i : ℕ) where
 
   -- a search among them
   module _ (p : Field → Bool) where
-    pub seek_hit : i < n → p (field_at t i) ≡ true → seeking p i (fields_from t i (n - i)) ≡ Nth i
+    pub seek_hit : i < n → p (field_at t i) ≡ true → seeking p i (fields_from t i (n - i)) ≡ Ok (Some i)
     unfolding seeking when◌then◌else◌
     seek_hit h e = rw (from_cons h, e)
 
@@ -47,7 +46,7 @@ module _ (t : List ℕ) (n i : ℕ) where
     unfolding seeking when◌then◌else◌
     seek_more h e = rw (from_cons h, e)
 
-    pub seek_end : n ≤ i → seeking p i (fields_from t i (n - i)) ≡ Missing
+    pub seek_end : n ≤ i → seeking p i (fields_from t i (n - i)) ≡ Ok None
     unfolding seeking
     seek_end h = rw (from_end h)
 
@@ -279,17 +278,17 @@ numbers_again t h = numbers_from t 0 256 h
 
 -- a status by its kind
 module _ (kind from to : ℕ) where
-  pub status_absent : eqb kind 0 ≡ true → status_of kind from to ≡ Absent
+  pub status_absent : eqb kind 0 ≡ true → status_of kind from to ≡ None
   unfolding status_of
   status_absent e = if_true _ _ e
 
-  pub status_block : eqb kind 0 ≡ false → eqb kind 1 ≡ true → status_of kind from to ≡ Stands (in_block from to)
+  pub status_block : eqb kind 0 ≡ false → eqb kind 1 ≡ true → status_of kind from to ≡ Some (in_block from to)
   unfolding status_of
-  status_block e f = if_false _ _ e ∙ ap (λ (p : Place). Stands p) (if_true _ _ f)
+  status_block e f = if_false _ _ e ∙ ap (λ (p : Place). Some p) (if_true _ _ f)
 
-  pub status_store : eqb kind 0 ≡ false → eqb kind 1 ≡ false → status_of kind from to ≡ Stands (in_store from to)
+  pub status_store : eqb kind 0 ≡ false → eqb kind 1 ≡ false → status_of kind from to ≡ Some (in_store from to)
   unfolding status_of
-  status_store e f = if_false _ _ e ∙ ap (λ (p : Place). Stands p) (if_false _ _ f)
+  status_store e f = if_false _ _ e ∙ ap (λ (p : Place). Some p) (if_false _ _ f)
 
   -- what a sound one is
   module _ (w : sound_status kind from to ≡ true) where

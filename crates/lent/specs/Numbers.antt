@@ -1,10 +1,9 @@
 -- A head in thirteen lent numbers. Assumes nothing.
-use Rattle.std.specs.Prelude.{Bool, true, false, ◌&&◌, List, [], ◌∷◌, ℕ, eqb, leb, ltb, length, get_or}
+use Rattle.maps.specs.declared.Place.{Place}
+use Rattle.std.specs.Prelude.{Bool, true, false, ◌&&◌, List, [], ◌∷◌, ℕ, eqb, leb, ltb, length, get_or, None, Option, Some}
 use Rattle.leaves.specs.Choice.{when◌then◌else◌}
 use Rattle.maps.specs.Places.{in_block, in_store}
 use Rattle.maps.specs.declared.Place.TheVariants.{Block, Store}
-use Rattle.maps.specs.declared.Status.{Status}
-use Rattle.maps.specs.declared.Status.TheVariants.{Absent, At}
 use Rattle.maps.specs.declared.Phase.{Phase}
 use Rattle.maps.specs.declared.Phase.TheVariants.{Reading, Done}
 use Rattle.maps.specs.declared.Head.{Head}
@@ -20,20 +19,20 @@ phase_number Reading = 1
 phase_number Done = 0
 
 -- the status: 0 if it is absent, else 1 for the block and 2 for the store; and the place's ends
-abbrev pub status_kind : Status → ℕ
-status_kind Absent = 0
-status_kind (At (Block a e)) = 1
-status_kind (At (Store a e)) = 2
+abbrev pub status_kind : Option Place → ℕ
+status_kind None = 0
+status_kind (Some (Block a e)) = 1
+status_kind (Some (Store a e)) = 2
 
-abbrev pub status_from : Status → ℕ
-status_from Absent = 0
-status_from (At (Block a e)) = a.0
-status_from (At (Store a e)) = a.0
+abbrev pub status_from : Option Place → ℕ
+status_from None = 0
+status_from (Some (Block a e)) = a.0
+status_from (Some (Store a e)) = a.0
 
-abbrev pub status_to : Status → ℕ
-status_to Absent = 0
-status_to (At (Block a e)) = e.0
-status_to (At (Store a e)) = e.0
+abbrev pub status_to : Option Place → ℕ
+status_to None = 0
+status_to (Some (Block a e)) = e.0
+status_to (Some (Store a e)) = e.0
 
 -- the numbers of a head: limit, room, count, line start, mark, fields, status, flags, phase
 abbrev pub head_numbers : Head → List ℕ
@@ -41,8 +40,8 @@ head_numbers h =
     h.limit ∷ h.room ∷ h.count ∷ h.line ∷ h.mark ∷ h.fields ∷ status_kind h.status ∷ status_from h.status ∷ status_to h.status ∷
     flag_of h.awaits ∷ flag_of h.quirks ∷ flag_of h.edited ∷ phase_number h.phase ∷ []
 
-unfoldable pub status_of : ℕ → ℕ → ℕ → Status
-status_of kind from to = when eqb kind 0 then Absent else At (when eqb kind 1 then in_block from to else in_store from to)
+unfoldable pub status_of : ℕ → ℕ → ℕ → Option Place
+status_of kind from to = when eqb kind 0 then None else Some (when eqb kind 1 then in_block from to else in_store from to)
 
 abbrev pub phase_of : ℕ → Phase
 phase_of n = when eqb n 1 then Reading else Done

@@ -3,7 +3,7 @@ ghost use Rattle.std.specs.Prelude.{◌≡◌, true, length};
 ghost use Rattle.maps.specs.Heads.{unmade_head};
 ghost use Rattle.lent.specs.Numbers.{flag_of, phase_number, status_kind, status_from, status_to, head_numbers, status_of, phase_of, head_of, sound_status, sound_head};
 
-use maps::{BlockOffset, Head, Phase, Place, Status, StoreOffset};
+use maps::{BlockOffset, Head, Phase, Place, StoreOffset};
 
 // How many numbers a head is.
 pub const HEAD: usize = 13;
@@ -48,17 +48,17 @@ pub fn is_sound(n: &[u64]) -> bool
     false
 }
 
-fn status_of(kind: u64, from: u64, to: u64) -> Status
+fn status_of(kind: u64, from: u64, to: u64) -> Option<Place>
     requires { sound_status kind from to ≡ true }
     ensures { result ≡ status_of kind from to }
 {
     if kind == 0 {
-        return Status::Absent;
+        return None;
     }
     if kind == 1 {
-        return Status::At(Place::Block(BlockOffset(from as u32), BlockOffset(to as u32)));
+        return Some(Place::Block(BlockOffset(from as u32), BlockOffset(to as u32)));
     }
-    Status::At(Place::Store(StoreOffset(from as u32), StoreOffset(to as u32)))
+    Some(Place::Store(StoreOffset(from as u32), StoreOffset(to as u32)))
 }
 
 fn phase_of(n: u64) -> Phase
@@ -93,36 +93,36 @@ pub fn head_at(n: &[u64]) -> Head
     }
 }
 
-fn kind_of(s: Status) -> u64
+fn kind_of(s: Option<Place>) -> u64
     ensures { result ≡ status_kind s }
 {
     match s {
-        Status::Absent => 0,
-        Status::At(p) => match p {
+        None => 0,
+        Some(p) => match p {
             Place::Block(a, e) => 1,
             Place::Store(a, e) => 2,
         },
     }
 }
 
-fn from_of(s: Status) -> u64
+fn from_of(s: Option<Place>) -> u64
     ensures { result ≡ status_from s }
 {
     match s {
-        Status::Absent => 0,
-        Status::At(p) => match p {
+        None => 0,
+        Some(p) => match p {
             Place::Block(a, e) => a.0 as u64,
             Place::Store(a, e) => a.0 as u64,
         },
     }
 }
 
-fn to_of(s: Status) -> u64
+fn to_of(s: Option<Place>) -> u64
     ensures { result ≡ status_to s }
 {
     match s {
-        Status::Absent => 0,
-        Status::At(p) => match p {
+        None => 0,
+        Some(p) => match p {
             Place::Block(a, e) => e.0 as u64,
             Place::Store(a, e) => e.0 as u64,
         },
@@ -177,7 +177,7 @@ pub fn unmade() -> Head
         line: 0,
         mark: 0,
         fields: 0,
-        status: Status::Absent,
+        status: None,
         awaits: false,
         quirks: false,
         edited: false,

@@ -12,7 +12,7 @@ ghost use Rattle.lent.specs.Table.{fields_from, map_in, live_in};
 ghost use Rattle.lent.specs.Numbers.{head_of, sound_map, long_map};
 
 use leaves::refusals::Refusal;
-use maps::{BlockOffset, Checked, Field, Head, HeaderMap, Place};
+use maps::{BlockOffset, Field, Head, HeaderMap, Place};
 
 // How many numbers a table is.
 pub const TABLE: usize = 1024;
@@ -41,7 +41,7 @@ fn is_good(h: Head, t: &[u32]) -> bool
 }
 
 // What every call but begin checks first: 3, 2, 7. Ready says whether the map's phase is the one that the call wants.
-pub fn check(h: Head, t: &[u32], ready: bool, block: usize, store: usize) -> Checked
+pub fn check(h: Head, t: &[u32], ready: bool, block: usize, store: usize) -> Result<(), Refusal>
     requires { length t.now ≡ 1024 }
     ensures { result ≡ checked ready (map_in t.now h) block store }
 {
@@ -51,15 +51,15 @@ pub fn check(h: Head, t: &[u32], ready: bool, block: usize, store: usize) -> Che
         if limit <= block {
             if room <= store {
                 if ready {
-                    return Checked::Fine;
+                    return Ok(());
                 }
-                return Checked::Refused(Refusal::WrongPhase);
+                return Err(Refusal::WrongPhase);
             }
-            return Checked::Refused(Refusal::ShortLoan);
+            return Err(Refusal::ShortLoan);
         }
-        return Checked::Refused(Refusal::ShortLoan);
+        return Err(Refusal::ShortLoan);
     }
-    Checked::Refused(Refusal::BadMap)
+    Err(Refusal::BadMap)
 }
 
 // How many fields a map holds of n.
@@ -92,7 +92,7 @@ fn live_table(t: &[u32], n: usize) -> [Field; 256]
 }
 
 // The first checks of a call that wants a map that is Done.
-pub fn check_done(h: Head, t: &[u32], block: &[u8], store: &[u8]) -> Checked
+pub fn check_done(h: Head, t: &[u32], block: &[u8], store: &[u8]) -> Result<(), Refusal>
     requires { length t.now ≡ 1024 }
     ensures { result ≡ checked_done (map_in t.now h) block.now store.now }
 {

@@ -4,8 +4,8 @@ ghost use Rattle.maps.specs.Good.{Fits, Fit, good_place, good_field, good_fields
 ghost use Rattle.lookups.specs.Lookups.{named, seeking};
 ghost use Rattle.lent.specs.Table.{place_of, good_stored, place_at, field_at, fields_from, from_of, to_of, place_put, field_put};
 
+use leaves::refusals::Refusal;
 use leaves::names;
-use lookups::Found;
 use maps::{BlockOffset, Field, Place, StoreOffset};
 
 // Offsets of the store stand behind this number, those of the block before it.
@@ -140,7 +140,7 @@ pub fn find<'a>(
     store: &'a [u8],
     name: &[u8],
     from: usize,
-) -> Found
+) -> Result<Option<usize>, Refusal>
     requires { (n ≤ 256) × (length t.now ≡ 1024) }
     ensures { result ≡ seeking (named block.now store.now name.now) from (fields_from t.now from (n - from)) }
 {
@@ -149,9 +149,9 @@ pub fn find<'a>(
         let p = place_at(t, i * 4);
         let key = maps::part(block, store, p);
         if names::same_name(key, name) {
-            return Found::Nth(i);
+            return Ok(Some(i));
         }
         i += 1;
     }
-    Found::Missing
+    Ok(None)
 }

@@ -7,41 +7,40 @@ ghost use Rattle.lookups.specs.Lookups.{finding};
 ghost use Rattle.codes.specs.Codes.{coding, length_of, kind_of};
 ghost use Rattle.lent.specs.Table.{field_at, map_in};
 
-use codes::line::Code;
-use codes::{Kind, Length, line};
+use leaves::refusals::Refusal;
+use codes::line;
 use leaves::lengths;
 use lent::tables;
-use lookups::Found;
-use maps::{Checked, Head};
+use maps::Head;
 use standard::types;
 
-pub fn status_code<'a>(h: Head, t: &[u32], block: &'a [u8], store: &'a [u8]) -> Code
+pub fn status_code<'a>(h: Head, t: &[u32], block: &'a [u8], store: &'a [u8]) -> Result<Option<u16>, Refusal>
     requires { length t.now ≡ 1024 }
     ensures { result ≡ coding (map_in t.now h) block.now store.now }
 {
     let s = lent::check_done(h, t, block, store);
     match s {
-        Checked::Fine => {
+        Ok(()) => {
             let status = h.status;
             let text = codes::status_text(status, block, store);
             line::code_of(text)
         }
-        Checked::Refused(x) => Code::Refused(x),
+        Err(x) => Err(x),
     }
 }
 
 // The number of the first field that has a name.
-fn find<'a>(h: Head, t: &[u32], block: &'a [u8], store: &'a [u8], name: &[u8]) -> Found
+fn find<'a>(h: Head, t: &[u32], block: &'a [u8], store: &'a [u8], name: &[u8]) -> Result<Option<usize>, Refusal>
     requires { length t.now ≡ 1024 }
     ensures { result ≡ finding (map_in t.now h) block.now store.now name.now 0 }
 {
     let s = lent::check_done(h, t, block, store);
     match s {
-        Checked::Fine => {
+        Ok(()) => {
             let n = h.fields;
             tables::find(t, n, block, store, name, 0)
         }
-        Checked::Refused(x) => Found::Refused(x),
+        Err(x) => Err(x),
     }
 }
 
@@ -55,34 +54,34 @@ fn value<'a>(t: &[u32], block: &'a [u8], store: &'a [u8], i: usize) -> &'a [u8]
     maps::part(block, store, p)
 }
 
-pub fn content_length<'a>(h: Head, t: &[u32], block: &'a [u8], store: &'a [u8]) -> Length
+pub fn content_length<'a>(h: Head, t: &[u32], block: &'a [u8], store: &'a [u8]) -> Result<Option<u64>, Refusal>
     requires { length t.now ≡ 1024 }
     ensures { result ≡ length_of (map_in t.now h) block.now store.now }
 {
-    let found = find(h, t, block, store, b"Content-Length");
+    let found = find(h, t, block, store, b"Content-Result<Option<u64>, Refusal>");
     match found {
-        Found::Nth(i) => {
+        Ok(Some(i)) => {
             let text = value(t, block, store, i);
             let n = lengths::content_length(text);
-            Length::Known(n)
+            Ok(Some(n))
         }
-        Found::Missing => Length::Missing,
-        Found::Refused(x) => Length::Refused(x),
+        Ok(None) => Ok(None),
+        Err(x) => Err(x),
     }
 }
 
-pub fn record_type<'a>(h: Head, t: &[u32], block: &'a [u8], store: &'a [u8]) -> Kind
+pub fn record_type<'a>(h: Head, t: &[u32], block: &'a [u8], store: &'a [u8]) -> Result<u16, Refusal>
     requires { length t.now ≡ 1024 }
     ensures { result ≡ kind_of (map_in t.now h) block.now store.now }
 {
     let found = find(h, t, block, store, b"WARC-Type");
     match found {
-        Found::Nth(i) => {
+        Ok(Some(i)) => {
             let text = value(t, block, store, i);
             let n = types::record_type(text);
-            Kind::Known(n)
+            Ok(n)
         }
-        Found::Missing => Kind::Known(0),
-        Found::Refused(x) => Kind::Refused(x),
+        Ok(None) => Ok(0),
+        Err(x) => Err(x),
     }
 }

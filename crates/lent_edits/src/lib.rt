@@ -3,23 +3,21 @@
 
 ghost use Rattle.std.specs.Prelude.{◌≡◌, ◌≤◌, length};
 ghost use Rattle.maps.specs.Good.{checked_done};
-ghost use Rattle.maps.specs.declared.Checked.TheVariants.{Fine};
 ghost use Rattle.maps.specs.Maps.{Is};
 ghost use Rattle.edits.specs.Edits.{putting, removing, setting, appending, statusing};
 ghost use Rattle.lent.specs.Table.{map_in};
 ghost use Rattle.lent_edits.specs.Lent.{edited_in};
 
-use edits::{Edit, Plan};
 use leaves::refusals::Refusal;
 use leaves::sanitise;
-use maps::{Checked, Head, Status};
+use maps::Head;
 
 mod tables;
 
 // An edit's answer and the head that it leaves.
 #[derive(Clone, Copy)]
 pub struct EditedHead {
-    pub answer: Edit,
+    pub answer: Result<(), Refusal>,
     pub head: Head,
 }
 
@@ -36,7 +34,7 @@ pub fn remove<'a>(
 {
     let s = lent::check_done(h, t, block, store);
     match s {
-        Checked::Fine => {
+        Ok(()) => {
             let n = h.fields;
             let fields = tables::compact(t, 0, n, block, store, key);
             let edited = edits::changed(h.edited, fields, n);
@@ -45,11 +43,11 @@ pub fn remove<'a>(
                 edited,
                 ..h
             };
-            let answer = Edit::Done;
+            let answer = Ok(());
             EditedHead { answer, head }
         }
-        Checked::Refused(x) => {
-            let answer = Edit::Refused(x);
+        Err(x) => {
+            let answer = Err(x);
             EditedHead { answer, head: h }
         }
     }
@@ -65,12 +63,12 @@ fn put_at<'a>(
     key: &[u8],
     value: &[u8],
 ) -> EditedHead
-    requires { (length t.old ≡ 1024) × (Fine ≡ checked_done (map_in t.old h) block.now store.old) × (at ≤ h.fields) }
+    requires { (length t.old ≡ 1024) × (Ok tt ≡ checked_done (map_in t.old h) block.now store.old) × (at ≤ h.fields) }
     ensures { Is (putting (map_in t.old h) block.now store.old at key.now value.now) (edited_in t.new result) block.now store.new }
 {
     let planned = edits::plan_put(at, h.mark, h.room, key, value);
     match planned {
-        Plan::Put(f) => {
+        Ok(f) => {
             let fields = tables::put(t, h.fields, at, f, block, store, key);
             let mark = edits::write_both(store, h.mark, key, value);
             let filled = Head {
@@ -79,14 +77,14 @@ fn put_at<'a>(
                 edited: true,
                 ..h
             };
-            let answer = Edit::Done;
+            let answer = Ok(());
             EditedHead {
                 answer,
                 head: filled,
             }
         }
-        Plan::Refused(x) => {
-            let answer = Edit::Refused(x);
+        Err(x) => {
+            let answer = Err(x);
             EditedHead { answer, head: h }
         }
     }
@@ -106,13 +104,13 @@ pub fn set<'a>(
 {
     let s = lent::check_done(h, t, block, store);
     match s {
-        Checked::Fine => {
+        Ok(()) => {
             let n = h.fields;
             let at = tables::first_at(t, n, block, store, key);
             put_at(h, t, block, store, at, key, value)
         }
-        Checked::Refused(x) => {
-            let answer = Edit::Refused(x);
+        Err(x) => {
+            let answer = Err(x);
             EditedHead { answer, head: h }
         }
     }
@@ -132,12 +130,12 @@ pub fn append<'a>(
 {
     let s = lent::check_done(h, t, block, store);
     match s {
-        Checked::Fine => {
+        Ok(()) => {
             let n = h.fields;
             put_at(h, t, block, store, n, key, value)
         }
-        Checked::Refused(x) => {
-            let answer = Edit::Refused(x);
+        Err(x) => {
+            let answer = Err(x);
             EditedHead { answer, head: h }
         }
     }
@@ -150,7 +148,7 @@ pub fn set_status(h: Head, t: &[u32], block: &[u8], store: &mut [u8], text: &[u8
 {
     let s = lent::check_done(h, t, block, store);
     match s {
-        Checked::Fine => {
+        Ok(()) => {
             let start = h.mark;
             let room = h.room;
             let k = sanitise::sanitised_length(text, true);
@@ -158,21 +156,21 @@ pub fn set_status(h: Head, t: &[u32], block: &[u8], store: &mut [u8], text: &[u8
                 let n = sanitise::sanitise_into(store, start, text, true);
                 let mark = start + n;
                 let place = maps::in_store(start, mark);
-                let status = Status::At(place);
+                let status = Some(place);
                 let head = Head {
                     status,
                     mark,
                     edited: true,
                     ..h
                 };
-                let answer = Edit::Done;
+                let answer = Ok(());
                 return EditedHead { answer, head };
             }
-            let answer = Edit::Refused(Refusal::StoreFull);
+            let answer = Err(Refusal::StoreFull);
             EditedHead { answer, head: h }
         }
-        Checked::Refused(x) => {
-            let answer = Edit::Refused(x);
+        Err(x) => {
+            let answer = Err(x);
             EditedHead { answer, head: h }
         }
     }

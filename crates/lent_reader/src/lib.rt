@@ -11,36 +11,38 @@ ghost use Rattle.reader.specs.Calls.{fed_from, finished_from, feeding, finishing
 ghost use Rattle.lent.specs.Table.{table_of, map_in};
 ghost use Rattle.lent_reader.specs.Lent.{fed_in, made_in};
 
+use maps::Field;
+use leaves::refusals::Refusal;
 use folds::Change;
 use lent::tables;
 use line_reader::Answer;
-use maps::{Checked, Head, Phase};
+use maps::{Head, Phase};
 
 // A reading's answer over a lent table: the head it leaves, how many octets were taken.
 #[derive(Clone, Copy)]
 pub struct FedHead {
     pub head: Head,
     pub taken: usize,
-    pub answer: Answer,
+    pub answer: Result<Answer, Refusal>,
 }
 
 // The head of a map that was made or cleared, or left as it was.
 #[derive(Clone, Copy)]
 pub struct MadeHead {
     pub head: Head,
-    pub answer: Checked,
+    pub answer: Result<(), Refusal>,
 }
 
 // Puts into the table what a change puts.
-fn put_change(t: &mut [u32], change: Change)
+fn put_change(t: &mut [u32], change: Result<Change, Refusal>)
     requires { (length t.old ≡ 1024) × Puts change }
     ensures { table_of t.new ≡ put_in (table_of t.old) change }
 {
     match change {
-        Change::Nothing => {}
-        Change::Status(p) => {}
-        Change::Put(slot, x, mark) => tables::put_field(t, slot, x),
-        Change::Refused(e) => {}
+        Ok(Change::Nothing) => {}
+        Ok(Change::Status(p)) => {}
+        Ok(Change::Put(slot, x, mark)) => tables::put_field(t, slot, x),
+        Err(e) => {}
     }
 }
 
@@ -51,7 +53,7 @@ fn feed_lines(h: Head, t: &mut [u32], block: &mut [u8], store: &mut [u8], piece:
 {
     let mut now = h;
     let mut at = 0;
-    let mut answer = Answer::More;
+    let mut answer = Ok(Answer::More);
     let mut going = true;
     while going {
         let slot = line_reader::last_of(now.fields);
@@ -80,11 +82,11 @@ pub fn feed(h: Head, t: &mut [u32], block: &mut [u8], store: &mut [u8], piece: &
     let phase = h.phase;
     let ready = maps::is_reading(phase);
     match lent::check(h, t, ready, block.len(), store.len()) {
-        Checked::Fine => feed_lines(h, t, block, store, piece),
-        Checked::Refused(e) => FedHead {
+        Ok(()) => feed_lines(h, t, block, store, piece),
+        Err(e) => FedHead {
             head: h,
             taken: 0,
-            answer: Answer::Refused(e),
+            answer: Err(e),
         },
     }
 }
@@ -117,11 +119,11 @@ pub fn finish(h: Head, t: &mut [u32], block: &[u8], store: &mut [u8]) -> FedHead
     let phase = h.phase;
     let ready = maps::is_reading(phase);
     match lent::check(h, t, ready, block.len(), store.len()) {
-        Checked::Fine => finish_line(h, t, block, store),
-        Checked::Refused(e) => FedHead {
+        Ok(()) => finish_line(h, t, block, store),
+        Err(e) => FedHead {
             head: h,
             taken: 0,
-            answer: Answer::Refused(e),
+            answer: Err(e),
         },
     }
 }
@@ -139,16 +141,16 @@ pub fn begin(
     ensures { (T : List Field) → Is (beginning (under T h) limit room awaits quirks block.now store.now) (made_in T result) block.now store.now }
 {
     match reader::check_rooms(limit, room, block.len(), store.len()) {
-        Checked::Fine => {
+        Ok(()) => {
             let head = reader::empty_head(limit, room, awaits, quirks, Phase::Reading);
             MadeHead {
                 head,
-                answer: Checked::Fine,
+                answer: Ok(()),
             }
         }
-        Checked::Refused(e) => MadeHead {
+        Err(e) => MadeHead {
             head: h,
-            answer: Checked::Refused(e),
+            answer: Err(e),
         },
     }
 }
@@ -159,16 +161,16 @@ pub fn clear(h: Head, t: &[u32], block: &[u8], store: &[u8]) -> MadeHead
     ensures { Is (clearing (map_in t.now h) block.now store.now) (made_in (table_of t.now) result) block.now store.now }
 {
     match lent::check(h, t, true, block.len(), store.len()) {
-        Checked::Fine => {
+        Ok(()) => {
             let head = reader::empty_head(h.limit, h.room, false, false, Phase::Done);
             MadeHead {
                 head,
-                answer: Checked::Fine,
+                answer: Ok(()),
             }
         }
-        Checked::Refused(e) => MadeHead {
+        Err(e) => MadeHead {
             head: h,
-            answer: Checked::Refused(e),
+            answer: Err(e),
         },
     }
 }

@@ -4,7 +4,6 @@
 ghost use Rattle.std.specs.Prelude.{◌≡◌, ◌+◌, ◌≤◌, length};
 ghost use Rattle.maps.specs.Good.{checked, checked_done};
 ghost use Rattle.maps.specs.Maps.{Is};
-ghost use Rattle.maps.specs.declared.Checked.TheVariants.{Fine};
 ghost use Rattle.openings.specs.Opening.{opening as openingOf};
 ghost use Rattle.openings.specs.Sights.{spotted};
 ghost use Rattle.walker.specs.Walk.{ready_at, header_read, walking, ending};
@@ -12,10 +11,11 @@ ghost use Rattle.walker.specs.Trails.{Judged, headed_by};
 ghost use Rattle.lent.specs.Table.{table_of, map_in};
 ghost use Rattle.lent_walker.specs.Lent.{walker_in, walked_in, with_head, Starts};
 
+use leaves::refusals::Refusal;
 use lent::tables;
 use line_reader::Answer;
-use maps::{Checked, Head};
-use openings::{Opening, Sight, Sights, Spots};
+use maps::Head;
+use openings::{Sight, Sights, Spots};
 use walker::{Headed, Kept, Stage, Step, Trail, Trailed, Turn, turns};
 
 // What a call gave over a lent table: the trail and the head it leaves.
@@ -24,7 +24,7 @@ pub struct WalkedHead {
     pub trail: Trail,
     pub head: Head,
     pub taken: usize,
-    pub step: Step,
+    pub step: Result<Step, Refusal>,
 }
 
 // A pass over the first n fields of a table.
@@ -60,8 +60,8 @@ fn spot<'a>(t: &[u32], n: usize, block: &'a [u8], store: &'a [u8]) -> Spots
 }
 
 // What a map opens that was judged already.
-fn open_good<'a>(h: Head, t: &[u32], block: &'a [u8], store: &'a [u8]) -> Opening
-    requires { (length t.now ≡ 1024) × (Fine ≡ checked_done (map_in t.now h) block.now store.now) }
+fn open_good<'a>(h: Head, t: &[u32], block: &'a [u8], store: &'a [u8]) -> Result<(u64, u16), Refusal>
+    requires { (length t.now ≡ 1024) × (Ok tt ≡ checked_done (map_in t.now h) block.now store.now) }
     ensures { result ≡ openingOf (map_in t.now h) block.now store.now }
 {
     let status = h.status;
@@ -70,18 +70,18 @@ fn open_good<'a>(h: Head, t: &[u32], block: &'a [u8], store: &'a [u8]) -> Openin
 }
 
 // What an answer comes to. A map that was just fed was judged, and is good.
-fn comes_to<'a>(answer: Answer, h: Head, t: &[u32], block: &'a [u8], store: &'a [u8]) -> Headed
+fn comes_to<'a>(answer: Result<Answer, Refusal>, h: Head, t: &[u32], block: &'a [u8], store: &'a [u8]) -> Result<Headed, Refusal>
     requires { (length t.now ≡ 1024) × Judged answer (map_in t.now h) block.now store.now }
     ensures { result ≡ headed_by answer (openingOf (map_in t.now h) block.now store.now) }
 {
     match answer {
-        Answer::More => Headed::Goes,
-        Answer::Blank => {
+        Ok(Answer::More) => Ok(Headed::Goes),
+        Ok(Answer::Blank) => {
             let o = open_good(h, t, block, store);
-            Headed::Opens(o)
+            Ok(Headed::Opens(o))
         }
-        Answer::Input => Headed::Input,
-        Answer::Refused(e) => Headed::Shut(e),
+        Ok(Answer::Input) => Ok(Headed::Input),
+        Err(e) => Err(e),
     }
 }
 
@@ -101,7 +101,7 @@ fn with_head(h: Head, r: Trailed) -> WalkedHead
 }
 
 // The map's first checks at a stage: 3, 2, 7.
-fn check_map(h: Head, t: &[u32], stage: Stage, block: usize, store: usize) -> Checked
+fn check_map(h: Head, t: &[u32], stage: Stage, block: usize, store: usize) -> Result<(), Refusal>
     requires { length t.now ≡ 1024 }
     ensures { result ≡ checked (ready_at stage h.phase) (map_in t.now h) block store }
 {
@@ -146,7 +146,7 @@ pub fn start(h: Head, room: usize, position: u64, block: &[u8], store: &[u8]) ->
     let begun = made.head;
     let answer = made.answer;
     match answer {
-        Checked::Fine => {
+        Ok(()) => {
             let trail = Trail {
                 position,
                 rest: 0,
@@ -158,10 +158,10 @@ pub fn start(h: Head, room: usize, position: u64, block: &[u8], store: &[u8]) ->
                 trail,
                 head,
                 taken: 0,
-                step: Step::More,
+                step: Ok(Step::More),
             }
         }
-        Checked::Refused(e) => {
+        Err(e) => {
             let trail = Trail {
                 position,
                 rest: 0,
@@ -172,7 +172,7 @@ pub fn start(h: Head, room: usize, position: u64, block: &[u8], store: &[u8]) ->
                 trail,
                 head: h,
                 taken: 0,
-                step: Step::Refused(e),
+                step: Err(e),
             }
         }
     }

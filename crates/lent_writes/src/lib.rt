@@ -8,8 +8,7 @@ ghost use Rattle.lent.specs.Table.{fields_from, map_in};
 
 use leaves::refusals::Refusal;
 use lent::tables;
-use maps::{Checked, Head};
-use writes::Wrote;
+use maps::Head;
 
 // How many octets the lines of the first n fields are.
 fn fields_length<'a>(t: &[u32], n: usize, block: &'a [u8], store: &'a [u8]) -> usize
@@ -56,7 +55,7 @@ fn put_fields<'a>(
 }
 
 // Status, fields and the blank line, if the output holds them; 8 if it does not.
-fn give_map<'a>(out: &mut [u8], h: Head, t: &[u32], block: &'a [u8], store: &'a [u8]) -> Wrote
+fn give_map<'a>(out: &mut [u8], h: Head, t: &[u32], block: &'a [u8], store: &'a [u8]) -> Result<usize, Refusal>
     requires { (h.fields ≤ 256) × (length t.now ≡ 1024) }
     ensures { IsWritten (giving out.old (rebuilt (saying (map_in t.now h) block.now store.now))) result out.new }
 {
@@ -66,40 +65,40 @@ fn give_map<'a>(out: &mut [u8], h: Head, t: &[u32], block: &'a [u8], store: &'a 
     let b = fields_length(t, n, block, store);
     let size = a + b + 2;
     if out.len() < size {
-        return Wrote::Refused(Refusal::ShortOutput);
+        return Err(Refusal::ShortOutput);
     }
     let i = writes::put_status(out, status, block, store);
     let j = put_fields(out, i, t, n, block, store);
     let k = writes::put_two(out, j, 13, 10);
-    Wrote::Count(k)
+    Ok(k)
 }
 
 // Status, fields and the blank line, whatever the map was read from.
-pub fn rebuild<'a>(h: Head, t: &[u32], block: &'a [u8], store: &'a [u8], out: &mut [u8]) -> Wrote
+pub fn rebuild<'a>(h: Head, t: &[u32], block: &'a [u8], store: &'a [u8], out: &mut [u8]) -> Result<usize, Refusal>
     requires { length t.now ≡ 1024 }
     ensures { IsWritten (rebuilding (map_in t.now h) block.now store.now out.old) result out.new }
 {
     let s = lent::check_done(h, t, block, store);
     match s {
-        Checked::Fine => give_map(out, h, t, block, store),
-        Checked::Refused(x) => Wrote::Refused(x),
+        Ok(()) => give_map(out, h, t, block, store),
+        Err(x) => Err(x),
     }
 }
 
 // The block as it was read, or the map rebuilt. An unedited map costs its checks and one copy of the block.
-pub fn write<'a>(h: Head, t: &[u32], block: &'a [u8], store: &'a [u8], out: &mut [u8]) -> Wrote
+pub fn write<'a>(h: Head, t: &[u32], block: &'a [u8], store: &'a [u8], out: &mut [u8]) -> Result<usize, Refusal>
     requires { length t.now ≡ 1024 }
     ensures { IsWritten (writing (map_in t.now h) block.now store.now out.old) result out.new }
 {
     let s = lent::check_done(h, t, block, store);
     match s {
-        Checked::Fine => {
+        Ok(()) => {
             let count = h.count;
             if writes::is_untouched(h.edited, count) {
                 return writes::give(out, &block[0..count]);
             }
             give_map(out, h, t, block, store)
         }
-        Checked::Refused(x) => Wrote::Refused(x),
+        Err(x) => Err(x),
     }
 }

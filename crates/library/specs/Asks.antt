@@ -1,11 +1,10 @@
 -- What each public function asks of its caller. `proofs/Contracts` inhabits it. Assumes nothing.
-use Rattle.std.specs.Prelude.{◌≡◌, true, false, ◌+◌, ◌≤◌, ◌<◌, drop, length, take}
+use Rattle.std.specs.Prelude.{◌≡◌, true, false, ◌+◌, ◌≤◌, ◌<◌, drop, length, take, Ok}
 use Rattle.leaves.specs.Class.{Classified}
 use Rattle.leaves.specs.Octets.{before}
 use Rattle.leaves.specs.Sanitise.{sanitised}
 use Rattle.maps.specs.Good.{Fit, checked_done}
 use Rattle.maps.specs.Said.{status_at}
-use Rattle.maps.specs.declared.Checked.TheVariants.{Fine}
 use Rattle.folds.specs.Asks.{FoldReady}
 use Rattle.line_reader.specs.Lying.{Lying}
 use Rattle.line_reader.specs.Handling.{Able}
@@ -82,7 +81,7 @@ pub record SharedAsk : Type 0 where
   pub status_text_call : Free Rattle.codes.proofs.status_text.Reads.Asked
   pub note : Free Rattle.openings.proofs.note.Reads.Asked
   pub open_spots : Free Rattle.openings.proofs.open_spots.Reads.Asked
-  pub open_good : Asks Rattle.openings.proofs.open_good.Reads.Asked (λ κ a. Fine ≡ checked_done (first a) (second a).now (third a).now)
+  pub open_good : Asks Rattle.openings.proofs.open_good.Reads.Asked (λ κ a. Ok tt ≡ checked_done (first a) (second a).now (third a).now)
   pub ready_at_call : Free Rattle.walker.proofs.turns.ready_at.Reads.Asked
   pub kept_head_call : Free Rattle.walker.proofs.turns.kept_head.Reads.Asked
   pub turn : Free Rattle.walker.proofs.turns.turn.Reads.Asked

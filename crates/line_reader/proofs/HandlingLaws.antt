@@ -1,4 +1,6 @@
 -- What the code that handles a line needs, and what its arms give. Assumes nothing.
+use Rattle.leaves.specs.declared.refusals.Refusal.{Refusal}
+use Rattle.std.specs.Prelude.{Err, Ok, Result}
 use mathlib.Core.Path.{◌≡◌, refl, sym, ap, ◌∙◌}
 use mathlib.Core.Bool.{Bool, true, false}
 use mathlib.Core.List.{List, ◌++◌}
@@ -21,7 +23,7 @@ use Rattle.maps.proofs.FitLaws.{fit_mono}
 use Rattle.folds.specs.Asks.{FoldReady, Changes}
 use Rattle.folds.specs.Rule.{ends_block}
 use Rattle.folds.specs.declared.Change.{Change}
-use Rattle.folds.specs.declared.Change.TheVariants.{Nothing, Status as Headed, Put, Refused as Stops}
+use Rattle.folds.specs.declared.Change.TheVariants.{Nothing, Status as Headed, Put}
 use Rattle.folds.proofs.ListLaws.{take_pasted}
 use Rattle.line_reader.specs.Lying.{Lying}
 use Rattle.line_reader.specs.Handling.{Able, Puts, slot_of, counted, next_line, handled_by, stops_at, ruling_at, handling, line_ended, handled_took, next_handled, last_handled}
@@ -34,13 +36,13 @@ none_fits : Fit 65536 65536 no_field
 none_fits = record { key = lies_in_block 0 0 (omega arith) (omega arith); value = lies_in_block 0 0 (omega arith) (omega arith) }
 
 -- a change within its limits puts its field into the table
-fine_puts : (b mark fields room : ℕ) (new : List ℕ) (c : Change) → b ≤ 65536 → room ≤ 65536 → FineC b mark fields room new c → Puts c
-fine_puts b mark fields room new Nothing h k f = record { slot = omega arith; field = none_fits }
-fine_puts b mark fields room new (Headed p) h k f = record { slot = omega arith; field = none_fits }
-fine_puts b mark fields room new (Put slot x to) h k f = record { slot = f.few; field = fit_mono h (omega (arith, f.fits)) f.fit }
-fine_puts b mark fields room new (Stops e) h k f = record { slot = omega arith; field = none_fits }
+fine_puts : (b mark fields room : ℕ) (new : List ℕ) (c : Result Change Refusal) → b ≤ 65536 → room ≤ 65536 → FineC b mark fields room new c → Puts c
+fine_puts b mark fields room new (Ok Nothing) h k f = record { slot = omega arith; field = none_fits }
+fine_puts b mark fields room new (Ok (Headed p)) h k f = record { slot = omega arith; field = none_fits }
+fine_puts b mark fields room new (Ok (Put slot x to)) h k f = record { slot = f.few; field = fit_mono h (omega (arith, f.fits)) f.fit }
+fine_puts b mark fields room new (Err e) h k f = record { slot = omega arith; field = none_fits }
 
-pub none_puts : Puts Nothing
+pub none_puts : Puts (Ok Nothing)
 none_puts = record { slot = omega arith; field = none_fits }
 
 module _ {h : Head} {last : Field} {b s : List ℕ} (able : Able h last b s) where
@@ -68,14 +70,14 @@ module _ {h : Head} {last : Field} {b s : List ℕ} (able : Able h last b s) whe
   pub puts : Puts (ruling_at h last b s).change
   puts = fine_puts _ _ _ _ _ (ruling_at h last b s).change (omega (arith, able.count, able.small)) able.most fine
 
-  pub slot_few : (c : Change) → c ≡ (ruling_at h last b s).change → slot_of c < 256
+  pub slot_few : (c : Result Change Refusal) → c ≡ (ruling_at h last b s).change → slot_of c < 256
   slot_few c e = rw e puts.slot
 
   -- a line that rule 4 handled
-  pub is_handled : {s' : List ℕ} {c : Change} {r : Handled} (taken : ℕ) (a : Answer) (going : Bool)
+  pub is_handled : {s' : List ℕ} {c : Result Change Refusal} {r : Handled} (taken : ℕ) (a : Result Answer Refusal) (going : Bool)
       → Changes (ruling_at h last b s) s h.mark s' c → r ≡ handled_by h c taken a going → Is (handling h last b s taken a going) r b s'
   is_handled {s'} {c} {r} taken a going w e =
-      record { result = e ∙ ap (λ (c : Change). handled_by h c taken a going) w.is; block = refl; store = w.wrote }
+      record { result = e ∙ ap (λ (c : Result Change Refusal). handled_by h c taken a going) w.is; block = refl; store = w.wrote }
 
   -- the line, as the code cuts it out and as rule 4 does
   pub line_cut : drop h.line (take h.count b) ≡ take (h.count - h.line) (drop h.line b)
@@ -83,19 +85,19 @@ module _ {h : Head} {last : Field} {b s : List ℕ} (able : Able h last b s) whe
 
   module _ (taken : ℕ) where
     pub ended_blank : ends_block h.quirks (take (h.count - h.line) (drop h.line b)) ≡ true
-        → line_ended h last b s taken ≡ record { result = stops_at (next_line h) taken Blank; block = b; store = s }
+        → line_ended h last b s taken ≡ record { result = stops_at (next_line h) taken (Ok Blank); block = b; store = s }
     unfolding line_ended
     ended_blank e = if_true _ _ (rw line_cut e)
 
-    pub ended_on : ends_block h.quirks (take (h.count - h.line) (drop h.line b)) ≡ false → line_ended h last b s taken ≡ handling h last b s taken More true
+    pub ended_on : ends_block h.quirks (take (h.count - h.line) (drop h.line b)) ≡ false → line_ended h last b s taken ≡ handling h last b s taken (Ok More) true
     unfolding line_ended
     ended_on e = if_false _ _ (rw line_cut e)
 
-  pub last_left : h.line < h.count → last_handled h last b s ≡ handling h last b s 0 Input false
+  pub last_left : h.line < h.count → last_handled h last b s ≡ handling h last b s 0 (Ok Input) false
   unfolding last_handled
   last_left l = if_true _ _ (lt-ltb h.line h.count l)
 
-  pub last_none : h.count ≤ h.line → last_handled h last b s ≡ record { result = stops_at h 0 Input; block = b; store = s }
+  pub last_none : h.count ≤ h.line → last_handled h last b s ≡ record { result = stops_at h 0 (Ok Input); block = b; store = s }
   unfolding last_handled
   last_none l = if_false _ _ (le-ltb h.line h.count l)
 

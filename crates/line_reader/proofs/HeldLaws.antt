@@ -1,4 +1,6 @@
 -- How a reading goes on from a map and its loans to those of later, the piece taken from a place to another. Assumes nothing.
+use Rattle.leaves.specs.declared.refusals.Refusal.{Refusal}
+use Rattle.std.specs.Prelude.{Ok, Result}
 use mathlib.Core.Path.{◌≡◌, refl, sym, ap, ◌∙◌}
 use mathlib.Core.Bool.{Bool, true, false, false≢true}
 use mathlib.Core.List.{List}
@@ -90,18 +92,18 @@ abbrev pub go_on : Rules → Bool → Reading → List ℕ → Reading
 go_on R true r s = fed R r s
 go_on R false r s = r
 
-pub record Feeding (p : List ℕ) (m : HeaderMap) (b s : List ℕ) (at : ℕ) (m' : HeaderMap) (b' s' : List ℕ) (at' : ℕ) (a : Answer) (going : Bool) : Type 0 where
+pub record Feeding (p : List ℕ) (m : HeaderMap) (b s : List ℕ) (at : ℕ) (m' : HeaderMap) (b' s' : List ℕ) (at' : ℕ) (a : Result Answer Refusal) (going : Bool) : Type 0 where
   pub held : Held p m b s at m' b' s' at'
-  pub on : going ≡ true → a ≡ More
+  pub on : going ≡ true → a ≡ Ok More
   pub rest : fed (rules_of m) (reading_of m b s) (drop at p) ≡ go_on (rules_of m) going (answering m' b' s' a) (drop at' p)
 
-pub feeding_start : {m : HeaderMap} {b s : List ℕ} (p : List ℕ) → Ready m b s → length m.table ≡ 256 → Feeding p m b s 0 m b s 0 More true
+pub feeding_start : {m : HeaderMap} {b s : List ℕ} (p : List ℕ) → Ready m b s → length m.table ≡ 256 → Feeding p m b s 0 m b s 0 (Ok More) true
 feeding_start p r w = record { held = held_start p r w; on = λ e. refl; rest = refl }
 
 abbrev rules_in : Frame → Rules
 rules_in f = record { limit = f.limit; room = f.room; quirks = f.quirks }
 
-pub feeding_on : {p b s b₁ s₁ b₂ s₂ : List ℕ} {m m₁ m₂ : HeaderMap} {at at₁ at₂ : ℕ} {a₁ a₂ : Answer} {g₁ g₂ : Bool}
+pub feeding_on : {p b s b₁ s₁ b₂ s₂ : List ℕ} {m m₁ m₂ : HeaderMap} {at at₁ at₂ : ℕ} {a₁ a₂ : Result Answer Refusal} {g₁ g₂ : Bool}
     → Feeding p m b s at m₁ b₁ s₁ at₁ a₁ g₁ → g₁ ≡ true → Feeding p m₁ b₁ s₁ at₁ m₂ b₂ s₂ at₂ a₂ g₂ → Feeding p m b s at m₂ b₂ s₂ at₂ a₂ g₂
 feeding_on {p} {b} {s} {b₁} {s₁} {b₂} {s₂} {m} {m₁} {m₂} {at} {at₁} {at₂} {a₁} {a₂} {g₁} {g₂} f e g =
     let same : rules_of m₁ ≡ rules_of m = ap rules_in f.held.frame in
@@ -111,7 +113,7 @@ feeding_on {p} {b} {s} {b₁} {s₁} {b₂} {s₂} {m} {m₁} {m₂} {at} {at₁
       rest =
           f.rest ∙
           ap (λ (g : Bool). go_on (rules_of m) g (answering m₁ b₁ s₁ a₁) (drop at₁ p)) e ∙
-          ap (λ (a : Answer). fed (rules_of m) (answering m₁ b₁ s₁ a) (drop at₁ p)) (f.on e) ∙
+          ap (λ (a : Result Answer Refusal). fed (rules_of m) (answering m₁ b₁ s₁ a) (drop at₁ p)) (f.on e) ∙
           ap (λ (R : Rules). fed R (reading_of m₁ b₁ s₁) (drop at₁ p)) (sym same) ∙
           g.rest ∙
           ap (λ (R : Rules). go_on R g₂ (answering m₂ b₂ s₂ a₂) (drop at₂ p)) same;

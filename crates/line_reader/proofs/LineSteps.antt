@@ -1,4 +1,7 @@
 -- What a line makes of a reading, for each table whose last field it was given. Assumes nothing.
+use Rattle.maps.specs.declared.Place.{Place}
+use Rattle.leaves.specs.declared.refusals.Refusal.{Refusal}
+use Rattle.std.specs.Prelude.{Err, Ok, Option, Result, Some}
 use mathlib.Core.Path.{◌≡◌, refl, ap, ◌∙◌}
 use mathlib.Core.Bool.{Bool, true, false, false≢true}
 use mathlib.Core.List.{List, [], ◌∷◌, ◌++◌}
@@ -22,19 +25,17 @@ use Rattle.maps.specs.Places.{no_field}
 use Rattle.maps.specs.declared.Field.{Field}
 use Rattle.maps.specs.declared.Head.{Head}
 use Rattle.maps.specs.declared.HeaderMap.{HeaderMap}
-use Rattle.maps.specs.declared.Status.{Status}
-use Rattle.maps.specs.declared.Status.TheVariants.{At}
 use Rattle.maps.proofs.FitLaws.{all_mono, status_mono, all_snoc, all_take, all_get}
 use Rattle.maps.proofs.GoodBy.{Facts}
 use Rattle.folds.specs.Rule.{Ruling, ends_block}
 use Rattle.folds.specs.declared.Change.{Change}
-use Rattle.folds.specs.declared.Change.TheVariants.{Nothing, Status as Headed, Put, Refused as Stops}
+use Rattle.folds.specs.declared.Change.TheVariants.{Nothing, Status as Headed, Put}
 use Rattle.folds.proofs.ListLaws.{take_pasted, drop_pasted, pasted_none}
 use Rattle.line_reader.specs.Reading.{Rules, Gathered, Reading, ruled, lined, closed, fed, finished}
 use Rattle.line_reader.specs.Standing.{rules_of, answering, reading_of}
 use Rattle.line_reader.specs.Handling.{Able, Puts, put_in, head_with, counted, next_line, head_by, answer_by, going_by, stops_at, ruling_at, handling, line_ended, handled_took, took_at, next_handled, last_handled}
 use Rattle.line_reader.specs.declared.Answer.{Answer}
-use Rattle.line_reader.specs.declared.Answer.TheVariants.{More, Blank, Input, Refused}
+use Rattle.line_reader.specs.declared.Answer.TheVariants.{More, Blank, Input}
 use Rattle.line_reader.specs.declared.Handled.{Handled}
 use Rattle.line_reader.proofs.FitLaws.{Putting, FineC, ruled_table}
 use Rattle.line_reader.proofs.OctetSteps.{cr_cut, still, onward, by_line, taking_short}
@@ -80,18 +81,18 @@ abbrev store_by : Head → Field → List ℕ → List ℕ → List ℕ
 store_by h x b s = pasted s h.mark (ruling_at h x b s).new
 
 -- a refused line stops the reading, every other lets it go on
-on_by : (c : Change) → going_by true c ≡ true → answer_by More c ≡ More
-on_by Nothing e = refl
-on_by (Headed p) e = refl
-on_by (Put slot x to) e = refl
-on_by (Stops r) e = absurd (false≢true e)
+on_by : (c : Result Change Refusal) → going_by true c ≡ true → answer_by (Ok More) c ≡ Ok More
+on_by (Ok Nothing) e = refl
+on_by (Ok (Headed p)) e = refl
+on_by (Ok (Put slot x to)) e = refl
+on_by (Err r) e = absurd (false≢true e)
 
-go_by : (R : Rules) (m : HeaderMap) (b s : List ℕ) (c : Change) (xs : List ℕ)
-    → fed R (answering m b s (answer_by More c)) xs ≡ go_on R (going_by true c) (answering m b s (answer_by More c)) xs
-go_by R m b s Nothing xs = refl
-go_by R m b s (Headed p) xs = refl
-go_by R m b s (Put slot x to) xs = refl
-go_by R m b s (Stops r) xs = still R (answering m b s (Refused r)) refl xs
+go_by : (R : Rules) (m : HeaderMap) (b s : List ℕ) (c : Result Change Refusal) (xs : List ℕ)
+    → fed R (answering m b s (answer_by (Ok More) c)) xs ≡ go_on R (going_by true c) (answering m b s (answer_by (Ok More) c)) xs
+go_by R m b s (Ok Nothing) xs = refl
+go_by R m b s (Ok (Headed p)) xs = refl
+go_by R m b s (Ok (Put slot x to)) xs = refl
+go_by R m b s (Err r) xs = still R (answering m b s (Err r)) refl xs
 
 module _ {t : List Field} {h : Head} {x : Field} {b s : List ℕ} (w : Seated t h x b s) where
   last_fits : 0 < h.fields → Fit h.count h.mark x
@@ -124,7 +125,7 @@ module _ {t : List Field} {h : Head} {x : Field} {b s : List ℕ} (w : Seated t 
       (omega (arith, w.wide, w.facts.few)) s_long (reading_of (under t h) b s) refl refl refl refl refl)
 
   -- the next line, another status: the rest stays
-  held_same : (p : List ℕ) (at : ℕ) → at ≤ length p → (l : ℕ) (st : Status) (aw : Bool) → l ≤ h.count → FitStatus h.count h.mark st
+  held_same : (p : List ℕ) (at : ℕ) → at ≤ length p → (l : ℕ) (st : Option Place) (aw : Bool) → l ≤ h.count → FitStatus h.count h.mark st
       → Held p (under t h) b s at (under t (head_with h h.count l h.mark h.fields st aw)) b s at
   held_same p at r l st aw i f =
       record {
@@ -172,7 +173,7 @@ module _ {t : List Field} {h : Head} {x : Field} {b s : List ℕ} (w : Seated t 
     store_long : length (pasted s h.mark new) ≡ length s
     store_long = length_pasted s h.mark new (omega (arith, q.goal, q.fits, w.store))
 
-    held_put : (p : List ℕ) (at : ℕ) → at ≤ length p → Held p (under t h) b s at (under (set t slot y) (head_by h (Put slot y to))) b (pasted s h.mark new) at
+    held_put : (p : List ℕ) (at : ℕ) → at ≤ length p → Held p (under t h) b s at (under (set t slot y) (head_by h (Ok (Put slot y to)))) b (pasted s h.mark new) at
     held_put p at r =
         record {
           frame = refl;
@@ -204,25 +205,25 @@ module _ {t : List Field} {h : Head} {x : Field} {b s : List ℕ} (w : Seated t 
         }
 
   -- a line that rule 4 handles: what is held, and what the reading becomes with the answer a
-  handled_held : (p : List ℕ) (at : ℕ) → at ≤ length p → (new : List ℕ) (c : Change) → FineC h.count h.mark h.fields h.room new c
+  handled_held : (p : List ℕ) (at : ℕ) → at ≤ length p → (new : List ℕ) (c : Result Change Refusal) → FineC h.count h.mark h.fields h.room new c
       → Held p (under t h) b s at (under (put_in t c) (head_by h c)) b (pasted s h.mark new) at
-  handled_held p at r new Nothing f = rw (f, pasted_none s h.mark) (held_same p at r h.count h.status h.awaits (omega arith) w.facts.status)
-  handled_held p at r new (Headed q) f = rw (f.0, pasted_none s h.mark) (held_same p at r h.count (At q) false (omega arith) (fit_at f.1))
-  handled_held p at r new (Put slot y to) f = held_put new slot y to f p at r
-  handled_held p at r new (Stops e) f = rw (f, pasted_none s h.mark) (held_same p at r h.line h.status h.awaits w.facts.line w.facts.status)
+  handled_held p at r new (Ok Nothing) f = rw (f, pasted_none s h.mark) (held_same p at r h.count h.status h.awaits (omega arith) w.facts.status)
+  handled_held p at r new (Ok (Headed q)) f = rw (f.0, pasted_none s h.mark) (held_same p at r h.count (Some q) false (omega arith) (fit_at f.1))
+  handled_held p at r new (Ok (Put slot y to)) f = held_put new slot y to f p at r
+  handled_held p at r new (Err e) f = rw (f, pasted_none s h.mark) (held_same p at r h.line h.status h.awaits w.facts.line w.facts.status)
 
-  handled_says : (a : Answer) (new : List ℕ) (c : Change) → FineC h.count h.mark h.fields h.room new c
+  handled_says : (a : Result Answer Refusal) (new : List ℕ) (c : Result Change Refusal) → FineC h.count h.mark h.fields h.room new c
       → lined (reading_of (under t h) b s) a new c ≡ answering (under (put_in t c) (head_by h c)) b (pasted s h.mark new) (answer_by a c)
-  handled_says a new Nothing f = rw (f, pasted_none s h.mark, count_long able)
-  handled_says a new (Headed q) f = rw (f.0, pasted_none s h.mark, count_long able)
-  handled_says a new (Put slot y to) f = rw (count_long able, take_table new slot y to f, take_store new slot y to f)
-  handled_says a new (Stops e) f = rw (f, pasted_none s h.mark)
+  handled_says a new (Ok Nothing) f = rw (f, pasted_none s h.mark, count_long able)
+  handled_says a new (Ok (Headed q)) f = rw (f.0, pasted_none s h.mark, count_long able)
+  handled_says a new (Ok (Put slot y to)) f = rw (count_long able, take_table new slot y to f, take_store new slot y to f)
+  handled_says a new (Err e) f = rw (f, pasted_none s h.mark)
 
   -- the same of what rule 4 says of the line
   line_held : (p : List ℕ) (at : ℕ) → at ≤ length p → Held p (under t h) b s at (map_by t h x b s) b (store_by h x b s) at
   line_held p at r = handled_held p at r _ (ruling_at h x b s).change (fine able)
 
-  line_says : (a : Answer) → lined (reading_of (under t h) b s) a (ruled (rules_of (under t h)) (reading_of (under t h) b s)).new (ruled (rules_of (under t h)) (reading_of (under t h) b s)).change
+  line_says : (a : Result Answer Refusal) → lined (reading_of (under t h) b s) a (ruled (rules_of (under t h)) (reading_of (under t h) b s)).new (ruled (rules_of (under t h)) (reading_of (under t h) b s)).change
       ≡ answering (map_by t h x b s) b (store_by h x b s) (answer_by a (ruling_at h x b s).change)
   line_says a =
       ap (λ (g : Ruling). lined (reading_of (under t h) b s) a g.new g.change) ruled_is ∙
@@ -308,7 +309,7 @@ module _ {t : List Field} {h : Head} {x : Field} {b s : List ℕ} (w : Seated t 
     LineHandled g = Handles p t h b s at g.result g.block g.store
 
     line_blank : ends_block h.quirks (drop h.line (take (h.count + k) b')) ≡ true
-        → LineHandled (record { result = stops_at (next_line after) (at + k) Blank; block = b'; store = s })
+        → LineHandled (record { result = stops_at (next_line after) (at + k) (Ok Blank); block = b'; store = s })
     unfolding closed
     line_blank e =
         let n = more_held (Line k) refl v in
@@ -320,13 +321,13 @@ module _ {t : List Field} {h : Head} {x : Field} {b s : List ℕ} (w : Seated t 
                 rest =
                     rest_line ∙
                     ap (λ (r : Reading). fed (rules_of (under t h)) r (drop (at + k) p)) (if_true _ _ e ∙ rw (count_long (able next))) ∙
-                    still (rules_of (under t h)) (answering (under t (next_line after)) b' s Blank) refl (drop (at + k) p);
+                    still (rules_of (under t h)) (answering (under t (next_line after)) b' s (Ok Blank)) refl (drop (at + k) p);
               };
           further = λ e. absurd (false≢true e);
           puts = none_puts;
         }
 
-    line_on : ends_block h.quirks (drop h.line (take (h.count + k) b')) ≡ false → LineHandled (handling after x b' s (at + k) More true)
+    line_on : ends_block h.quirks (drop h.line (take (h.count + k) b')) ≡ false → LineHandled (handling after x b' s (at + k) (Ok More) true)
     unfolding closed
     line_on e =
         let n = more_held (Line k) refl v in
@@ -338,7 +339,7 @@ module _ {t : List Field} {h : Head} {x : Field} {b s : List ℕ} (w : Seated t 
                 on = on_by (ruling_at after x b' s).change;
                 rest =
                     rest_line ∙
-                    ap (λ (r : Reading). fed (rules_of (under t h)) r (drop (at + k) p)) (if_false _ _ e ∙ line_says next More) ∙
+                    ap (λ (r : Reading). fed (rules_of (under t h)) r (drop (at + k) p)) (if_false _ _ e ∙ line_says next (Ok More)) ∙
                     go_by (rules_of (under t h)) (map_by t after x b' s) b' (store_by after x b' s) (ruling_at after x b' s).change (drop (at + k) p);
               };
           further = λ e. omega arith;
@@ -390,21 +391,21 @@ module _ {t : List Field} {h : Head} {x : Field} {b s : List ℕ} (w : Seated t 
 
 module _ {t : List Field} {h : Head} {x : Field} {b s : List ℕ} (w : Seated t h x b s) where
   finish_by : ltb h.line h.count ≡ true → finished (rules_of (under t h)) (reading_of (under t h) b s)
-      ≡ lined (reading_of (under t h) b s) Input (ruled (rules_of (under t h)) (reading_of (under t h) b s)).new (ruled (rules_of (under t h)) (reading_of (under t h) b s)).change
+      ≡ lined (reading_of (under t h) b s) (Ok Input) (ruled (rules_of (under t h)) (reading_of (under t h) b s)).new (ruled (rules_of (under t h)) (reading_of (under t h) b s)).change
   unfolding finished
   finish_by e = if_false _ _ refl ∙ if_true _ _ (rw (count_long (able w)) e)
 
-  finish_none : ltb h.line h.count ≡ false → finished (rules_of (under t h)) (reading_of (under t h) b s) ≡ answering (under t h) b s Input
+  finish_none : ltb h.line h.count ≡ false → finished (rules_of (under t h)) (reading_of (under t h) b s) ≡ answering (under t h) b s (Ok Input)
   unfolding finished
   finish_none e = if_false _ _ refl ∙ if_false _ _ (rw (count_long (able w)) e)
 
   abbrev Ends : Given Handled → Type 0
   Ends g = Ended t h b s g.result g.block g.store
 
-  left_ends : ltb h.line h.count ≡ true → Ends (handling h x b s 0 Input false)
-  left_ends e = record { held = line_held w [] 0 (omega arith); says = finish_by e ∙ line_says w Input; puts = puts (able w) }
+  left_ends : ltb h.line h.count ≡ true → Ends (handling h x b s 0 (Ok Input) false)
+  left_ends e = record { held = line_held w [] 0 (omega arith); says = finish_by e ∙ line_says w (Ok Input); puts = puts (able w) }
 
-  none_ends : ltb h.line h.count ≡ false → Ends (record { result = stops_at h 0 Input; block = b; store = s })
+  none_ends : ltb h.line h.count ≡ false → Ends (record { result = stops_at h 0 (Ok Input); block = b; store = s })
   none_ends e =
       record {
         held = held_same w [] 0 (omega arith) h.line h.status h.awaits w.facts.line w.facts.status;

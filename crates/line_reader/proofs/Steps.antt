@@ -1,4 +1,6 @@
 -- A reading goes on in five ways; what each of them keeps, a reading keeps. Assumes nothing.
+use Rattle.leaves.specs.declared.refusals.Refusal.{Refusal}
+use Rattle.std.specs.Prelude.{Err, Ok, Result}
 use mathlib.Core.Path.{◌≡◌, refl, sym}
 use mathlib.Core.Bool.{Bool, true, false, not}
 use mathlib.Core.List.{List, [], ◌∷◌, ◌++◌}
@@ -8,40 +10,40 @@ use lib.ListN.{length}
 use Rattle.leaves.proofs.ChoiceLaws.{by_if}
 use Rattle.leaves.specs.Refusals.{refusal}
 use Rattle.folds.specs.declared.Change.{Change}
-use Rattle.folds.specs.declared.Change.TheVariants.{Nothing, Status as Headed, Put, Refused as Stops}
+use Rattle.folds.specs.declared.Change.TheVariants.{Nothing, Status as Headed, Put}
 use Rattle.line_reader.specs.Reading.{Rules, Reading, goes, lined, ruled, closed, put, stopped, step, fed, finished}
 use Rattle.line_reader.specs.declared.Answer.{Answer}
-use Rattle.line_reader.specs.declared.Answer.TheVariants.{More, Blank, Input, Refused}
+use Rattle.line_reader.specs.declared.Answer.TheVariants.{More, Blank, Input}
 
 -- an octet goes into the block
 abbrev pub taken : Reading → ℕ → Reading
-taken r o = record { block = r.block ++ o ∷ []; line = r.line; found = r.found; answer = More }
+taken r o = record { block = r.block ++ o ∷ []; line = r.line; found = r.found; answer = Ok More }
 
 -- a line that has ended ends the block
 abbrev pub blanked : Reading → Reading
-blanked r = record { block = r.block; line = length r.block; found = r.found; answer = Blank }
+blanked r = record { block = r.block; line = length r.block; found = r.found; answer = Ok Blank }
 
 -- the input ends where no line is left over
 abbrev pub ended : Reading → Reading
-ended r = record { block = r.block; line = r.line; found = r.found; answer = Input }
+ended r = record { block = r.block; line = r.line; found = r.found; answer = Ok Input }
 
 -- a line is handled by rule 4; the answer is a if nothing was refused
-abbrev pub handled : Rules → Answer → Reading → Reading
+abbrev pub handled : Rules → Result Answer Refusal → Reading → Reading
 handled R a r = lined r a (ruled R r).new (ruled R r).change
 
 -- an answer that is no number
-abbrev pub unrefused : Answer → Bool
-unrefused More = true
-unrefused Blank = true
-unrefused Input = true
-unrefused (Refused e) = false
+abbrev pub unrefused : Result Answer Refusal → Bool
+unrefused (Ok More) = true
+unrefused (Ok Blank) = true
+unrefused (Ok Input) = true
+unrefused (Err e) = false
 
 -- a line takes no octet
-pub lined_block : (r : Reading) (a : Answer) (new : List ℕ) (c : Change) → (lined r a new c).block ≡ r.block
-lined_block r a new Nothing = refl
-lined_block r a new (Headed p) = refl
-lined_block r a new (Put slot x mark) = refl
-lined_block r a new (Stops e) = refl
+pub lined_block : (r : Reading) (a : Result Answer Refusal) (new : List ℕ) (c : Result Change Refusal) → (lined r a new c).block ≡ r.block
+lined_block r a new (Ok Nothing) = refl
+lined_block r a new (Ok (Headed p)) = refl
+lined_block r a new (Ok (Put slot x mark)) = refl
+lined_block r a new (Err e) = refl
 
 not_goes : (t : Bool) → not t ≡ true → t ≡ false
 not_goes true e = sym e
@@ -56,7 +58,7 @@ module _ (R : Rules) (P : Reading → Type 0) where
   pub record Onward (q : Reading) : Type 0 where
     pub octet : P q
     pub blank : P (blanked q)
-    pub line : P (handled R More q)
+    pub line : P (handled R (Ok More) q)
 
   -- what one octet does, case by case
   pub step_by : (r : Reading) (o : ℕ) → (goes r.answer ≡ false → P r) → (goes r.answer ≡ true → P (stopped R r (refusal 4)))
@@ -75,7 +77,7 @@ module _ (R : Rules) (P : Reading → Type 0) where
     pub full : (r : Reading) → P r → P (stopped R r (refusal 4))
     pub octet : (r : Reading) (o : ℕ) → (length r.block ≡ R.limit → ⊥) → P r → P (taken r o)
     pub blank : (r : Reading) → P r → P (blanked r)
-    pub line : (r : Reading) (a : Answer) → unrefused a ≡ true → P r → P (handled R a r)
+    pub line : (r : Reading) (a : Result Answer Refusal) → unrefused a ≡ true → P r → P (handled R a r)
     pub input : (r : Reading) → P r → P (ended r)
 
   module _ (k : Keeps) where
@@ -84,7 +86,7 @@ module _ (R : Rules) (P : Reading → Type 0) where
         step_by r o (λ _. p) (λ _. k.full r p)
         (λ _ h.
         let q = k.octet r o h p in
-        record { octet = q; blank = k.blank (taken r o) q; line = k.line (taken r o) More refl q })
+        record { octet = q; blank = k.blank (taken r o) q; line = k.line (taken r o) (Ok More) refl q })
 
     pub fed_keeps : (r : Reading) (xs : List ℕ) → P r → P (fed R r xs)
     unfolding fed
@@ -93,4 +95,4 @@ module _ (R : Rules) (P : Reading → Type 0) where
 
     pub finished_keeps : (r : Reading) → P r → P (finished R r)
     unfolding finished
-    finished_keeps r p = by_if P _ _ _ (λ _. p) (λ _. by_if P _ _ _ (λ _. k.line r Input refl p) (λ _. k.input r p))
+    finished_keeps r p = by_if P _ _ _ (λ _. p) (λ _. by_if P _ _ _ (λ _. k.line r (Ok Input) refl p) (λ _. k.input r p))

@@ -1,5 +1,6 @@
 -- The reading that a map and its loans stand for. Assumes nothing.
-use Rattle.std.specs.Prelude.{List, ℕ, take}
+use Rattle.leaves.specs.declared.refusals.Refusal.{Refusal}
+use Rattle.std.specs.Prelude.{List, ℕ, take, Ok, Result}
 use Rattle.maps.specs.Good.{live}
 use Rattle.maps.specs.declared.HeaderMap.{HeaderMap}
 use Rattle.line_reader.specs.Reading.{Rules, Reading}
@@ -10,7 +11,7 @@ abbrev pub rules_of : HeaderMap → Rules
 rules_of m = record { limit = m.limit; room = m.room; quirks = m.quirks }
 
 -- with an answer
-abbrev pub answering : HeaderMap → List ℕ → List ℕ → Answer → Reading
+abbrev pub answering : HeaderMap → List ℕ → List ℕ → Result Answer Refusal → Reading
 answering m b s a =
     record {
       block = take m.count b;
@@ -21,4 +22,4 @@ answering m b s a =
 
 -- the reading that a map stands for
 abbrev pub reading_of : HeaderMap → List ℕ → List ℕ → Reading
-reading_of m b s = answering m b s More
+reading_of m b s = answering m b s (Ok More)

@@ -10,7 +10,7 @@ ghost use Rattle.line_reader.specs.Handling.{Able, slot_of, handled_of, handled_
 use folds::Change;
 use leaves::refusals::Refusal;
 use lines::Took;
-use maps::{Field, Head, Status};
+use maps::{Field, Head};
 
 // What a piece, or the end of input, did: more is wanted, a blank line or the end of input closed the reading, or a refusal.
 #[derive(Clone, Copy)]
@@ -18,7 +18,6 @@ pub enum Answer {
     More,
     Blank,
     Input,
-    Refused(Refusal),
 }
 
 // What a line did: the head after it, what it changes in the table, how far the piece is taken, the answer, and whether the reading
@@ -26,9 +25,9 @@ pub enum Answer {
 #[derive(Clone, Copy)]
 pub struct Handled {
     pub head: Head,
-    pub change: Change,
+    pub change: Result<Change, Refusal>,
     pub taken: usize,
-    pub answer: Answer,
+    pub answer: Result<Answer, Refusal>,
     pub going: bool,
 }
 
@@ -51,7 +50,7 @@ pub fn colon_of(piece: &[u8], from: usize, k: usize, line: &[u8], whole: bool) -
     lines::find_octet(line, 0, 58)
 }
 
-fn handled_of(head: Head, change: Change, taken: usize, answer: Answer, going: bool) -> Handled
+fn handled_of(head: Head, change: Result<Change, Refusal>, taken: usize, answer: Result<Answer, Refusal>, going: bool) -> Handled
     ensures { result ≡ handled_of head change taken answer going }
 {
     Handled {
@@ -64,26 +63,26 @@ fn handled_of(head: Head, change: Change, taken: usize, answer: Answer, going: b
 }
 
 // What a change makes of a head whose line it handles, with the answer if nothing was refused.
-fn handled_by(h: Head, change: Change, taken: usize, answer: Answer, going: bool) -> Handled
+fn handled_by(h: Head, change: Result<Change, Refusal>, taken: usize, answer: Result<Answer, Refusal>, going: bool) -> Handled
     requires { slot_of change < 256 }
     ensures { result ≡ handled_by h change taken answer going }
 {
     let line = h.count;
     match change {
-        Change::Nothing => {
+        Ok(Change::Nothing) => {
             let head = Head { line, ..h };
             handled_of(head, change, taken, answer, going)
         }
-        Change::Status(p) => {
+        Ok(Change::Status(p)) => {
             let head = Head {
                 line,
-                status: Status::At(p),
+                status: Some(p),
                 awaits: false,
                 ..h
             };
             handled_of(head, change, taken, answer, going)
         }
-        Change::Put(slot, x, to) => {
+        Ok(Change::Put(slot, x, to)) => {
             let head = Head {
                 line,
                 mark: to,
@@ -92,7 +91,7 @@ fn handled_by(h: Head, change: Change, taken: usize, answer: Answer, going: bool
             };
             handled_of(head, change, taken, answer, going)
         }
-        Change::Refused(e) => handled_of(h, change, taken, Answer::Refused(e), false),
+        Err(e) => handled_of(h, change, taken, Err(e), false),
     }
 }
 
@@ -116,13 +115,13 @@ fn close_line(
     let line = &block[start..count];
     if folds::ends_block(line, h.quirks) {
         let head = Head { line: count, ..h };
-        return handled_of(head, Change::Nothing, taken, Answer::Blank, false);
+        return handled_of(head, Ok(Change::Nothing), taken, Ok(Answer::Blank), false);
     }
     let c = colon_of(piece, from, k, line, whole);
     let change = folds::line_change(
         c, block, store, start, count, h.awaits, last, h.fields, h.room, h.mark,
     );
-    handled_by(h, change, taken, Answer::More, true)
+    handled_by(h, change, taken, Ok(Answer::More), true)
 }
 
 // Takes a line out of a piece from a place on: what it makes of a reading that stands at a head, whose last field is given.
@@ -145,15 +144,15 @@ pub fn handle_next(
                 count: count + k,
                 ..h
             };
-            handled_of(head, Change::Nothing, at + k, Answer::More, false)
+            handled_of(head, Ok(Change::Nothing), at + k, Ok(Answer::More), false)
         }
         Took::Full(k) => {
             let head = Head {
                 count: count + k,
                 ..h
             };
-            let answer = Answer::Refused(Refusal::BlockFull);
-            handled_of(head, Change::Nothing, at + k, answer, false)
+            let answer = Err(Refusal::BlockFull);
+            handled_of(head, Ok(Change::Nothing), at + k, answer, false)
         }
         Took::Line(k) => {
             let head = Head {
@@ -176,7 +175,7 @@ pub fn handle_last(h: Head, last: Field, block: &[u8], store: &mut [u8]) -> Hand
         let change = folds::rule_four(
             block, store, start, count, h.awaits, last, h.fields, h.room, h.mark,
         );
-        return handled_by(h, change, 0, Answer::Input, false);
+        return handled_by(h, change, 0, Ok(Answer::Input), false);
     }
-    handled_of(h, Change::Nothing, 0, Answer::Input, false)
+    handled_of(h, Ok(Change::Nothing), 0, Ok(Answer::Input), false)
 }

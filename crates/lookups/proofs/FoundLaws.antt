@@ -1,4 +1,5 @@
 -- A field that a lookup found: its number, and its value. Assumes nothing.
+use Rattle.std.specs.Prelude.{Err, None, Ok, Option, Result, Some, ⊤}
 use mathlib.Core.Path.{◌≡◌, refl, sym, ap, ◌∙◌}
 use mathlib.Core.Bool.{Bool, true, false}
 use mathlib.Core.List.{List, [], ◌∷◌}
@@ -10,21 +11,15 @@ use Rattle.leaves.proofs.ChoiceLaws.{clash}
 use Rattle.leaves.specs.declared.refusals.Refusal.{Refusal}
 use Rattle.maps.specs.Places.{at, no_field}
 use Rattle.maps.specs.Good.{live, checked_done}
-use Rattle.maps.specs.declared.Checked.{Checked}
-use Rattle.maps.specs.declared.Checked.TheVariants.{Fine, Refused as Bad}
 use Rattle.maps.specs.declared.Field.{Field}
 use Rattle.maps.specs.declared.HeaderMap.{HeaderMap}
 use Rattle.lookups.specs.Lookups.{named, seeking, finding, sighted_in, sighting, value_in, value_place, handed_out}
-use Rattle.lookups.specs.declared.Found.{Found}
-use Rattle.lookups.specs.declared.Found.TheVariants.{Nth, Missing, Refused}
-use Rattle.lookups.specs.declared.Sighted.TheVariants.{Sees, Missing as Unseen, Refused as Blind}
-use Rattle.lookups.specs.declared.Slot.{Slot}
 use Rattle.lookups.proofs.SeekLaws.{find_fine, find_refused}
 use Rattle.lookups.proofs.HandLaws.{slot_fine}
 
 -- a number that a search finds is one of those it looks at
 module _ (p : Field → Bool) where
-  seek_at : (n : ℕ) (x : Field) (xs : List Field) → p x ≡ true → seeking p n (x ∷ xs) ≡ Nth n
+  seek_at : (n : ℕ) (x : Field) (xs : List Field) → p x ≡ true → seeking p n (x ∷ xs) ≡ Ok (Some n)
   unfolding seeking when◌then◌else◌
   seek_at n x xs e = rw e
 
@@ -32,12 +27,12 @@ module _ (p : Field → Bool) where
   unfolding seeking when◌then◌else◌
   seek_on n x xs e = rw e
 
-  pub inside : (n i : ℕ) (xs : List Field) → seeking p n xs ≡ Nth i → (n ≤ i) × (i < n + length xs)
+  pub inside : (n i : ℕ) (xs : List Field) → seeking p n xs ≡ Ok (Some i) → (n ≤ i) × (i < n + length xs)
   unfolding seeking
   inside n i [] e = clash (cc)
   inside n i (x ∷ xs) e = choose (p x) refl (λ h. inside (n + 1) i xs h)
     where
-      choose : (t : Bool) → p x ≡ t → (seeking p (n + 1) xs ≡ Nth i → (n + 1 ≤ i) × (i < n + 1 + length xs)) → (n ≤ i) × (i < n + length (x ∷ xs))
+      choose : (t : Bool) → p x ≡ t → (seeking p (n + 1) xs ≡ Ok (Some i) → (n + 1 ≤ i) × (i < n + 1 + length xs)) → (n ≤ i) × (i < n + length (x ∷ xs))
       choose true f ih = let z : n ≡ i = cc (seek_at n x xs f) in (omega arith, omega arith)
       choose false f ih =
           let z = ih (sym (seek_on n x xs f) ∙ e) in
@@ -47,49 +42,50 @@ module _ (p : Field → Bool) where
 
 -- what was found and what it is
 module _ (t : List Field) where
-  in_at : (f : Found) (i : ℕ) (x : Field) → sighted_in t f ≡ Sees i x → (f ≡ Nth i) × (x ≡ get_or t i no_field)
-  in_at (Nth j) i x e =
-      let z : j ≡ i = cc in
-      let y : get_or t j no_field ≡ x = cc in
-      (ap Nth z, sym y ∙ ap (λ (k : ℕ). get_or t k no_field) z)
-  in_at Missing i x e = clash (cc)
-  in_at (Refused r) i x e = clash (cc)
+  in_at : (f : Result (Option ℕ) Refusal) (i : ℕ) (x : Field) → sighted_in t f ≡ Ok (Some (i, x)) → (f ≡ Ok (Some i)) × (x ≡ get_or t i no_field)
+  in_at (Ok (Some j)) i x e =
+      let p : (j, get_or t j no_field) ≡ (i, x) = cc in
+      let z : j ≡ i = ap (λ (q : ℕ × Field). q.0) p in
+      let y : get_or t j no_field ≡ x = ap (λ (q : ℕ × Field). q.1) p in
+      (ap (λ (k : ℕ). Ok (Some k)) z, sym y ∙ ap (λ (k : ℕ). get_or t k no_field) z)
+  in_at (Ok None) i x e = clash (cc)
+  in_at (Err r) i x e = clash (cc)
 
-  in_missing : (f : Found) → sighted_in t f ≡ Unseen → f ≡ Missing
-  in_missing (Nth j) e = clash (cc)
-  in_missing Missing e = refl
-  in_missing (Refused r) e = clash (cc)
+  in_missing : (f : Result (Option ℕ) Refusal) → sighted_in t f ≡ Ok None → f ≡ Ok None
+  in_missing (Ok (Some j)) e = clash (cc)
+  in_missing (Ok None) e = refl
+  in_missing (Err r) e = clash (cc)
 
-  in_refused : (f : Found) (r : Refusal) → sighted_in t f ≡ Blind r → f ≡ Refused r
-  in_refused (Nth j) r e = clash (cc)
-  in_refused Missing r e = clash (cc)
-  in_refused (Refused q) r e = let z : q ≡ r = cc in ap Refused z
+  in_refused : (f : Result (Option ℕ) Refusal) (r : Refusal) → sighted_in t f ≡ Err r → f ≡ Err r
+  in_refused (Ok (Some j)) r e = clash (cc)
+  in_refused (Ok None) r e = clash (cc)
+  in_refused (Err q) r e = let z : q ≡ r = cc in ap Err z
 
 module _ (m : HeaderMap) (b s name : List ℕ) (from : ℕ) where
-  pub sight_fine : Fine ≡ checked_done m b s → sighting m b s name from ≡ sighted_in m.table (seeking (named b s name) from (drop from (live m)))
+  pub sight_fine : Ok tt ≡ checked_done m b s → sighting m b s name from ≡ sighted_in m.table (seeking (named b s name) from (drop from (live m)))
   unfolding sighting
   sight_fine e = ap (sighted_in m.table) (find_fine m b s name from e)
 
-  pub sight_refused : (x : Refusal) → Bad x ≡ checked_done m b s → sighting m b s name from ≡ Blind x
+  pub sight_refused : (x : Refusal) → Err x ≡ checked_done m b s → sighting m b s name from ≡ Err x
   unfolding sighting
   sight_refused x e = ap (sighted_in m.table) (find_refused m b s name from x e)
 
-  pub sight_missing : sighting m b s name from ≡ Unseen → finding m b s name from ≡ Missing
+  pub sight_missing : sighting m b s name from ≡ Ok None → finding m b s name from ≡ Ok None
   unfolding sighting
   sight_missing e = in_missing m.table (finding m b s name from) e
 
-  pub sight_blind : (x : Refusal) → sighting m b s name from ≡ Blind x → finding m b s name from ≡ Refused x
+  pub sight_blind : (x : Refusal) → sighting m b s name from ≡ Err x → finding m b s name from ≡ Err x
   unfolding sighting
   sight_blind x e = in_refused m.table (finding m b s name from) x e
 
   module _ (i : ℕ) where
-    module _ (f : finding m b s name from ≡ Nth i) where
-      fine : Fine ≡ checked_done m b s
+    module _ (f : finding m b s name from ≡ Ok (Some i)) where
+      fine : Ok tt ≡ checked_done m b s
       fine = by (checked_done m b s) refl
         where
-          by : (c : Checked) → c ≡ checked_done m b s → Fine ≡ checked_done m b s
-          by Fine e = e
-          by (Bad x) e = clash (cc (find_refused m b s name from x e))
+          by : (c : Result ⊤ Refusal) → c ≡ checked_done m b s → Ok tt ≡ checked_done m b s
+          by (Ok tt) e = e
+          by (Err x) e = clash (cc (find_refused m b s name from x e))
 
       within : i < m.fields
       within =
@@ -98,8 +94,8 @@ module _ (m : HeaderMap) (b s name : List ℕ) (from : ℕ) where
           let v = z.1 in
           omega (arith, u, v, length-drop from (live m), length-take m.fields m.table)
 
-    module _ (x : Field) (e : sighting m b s name from ≡ Sees i x) where
-      pub sight_at : finding m b s name from ≡ Nth i
+    module _ (x : Field) (e : sighting m b s name from ≡ Ok (Some (i, x))) where
+      pub sight_at : finding m b s name from ≡ Ok (Some i)
       unfolding sighting
       sight_at = (in_at m.table (finding m b s name from) i x e).0
 
@@ -111,4 +107,4 @@ module _ (m : HeaderMap) (b s name : List ℕ) (from : ℕ) where
       pub sight_value : at b s x.value ≡ handed_out b s (value_place m b s i)
       sight_value =
           ap (λ (y : Field). at b s y.value) field_is ∙
-          sym (ap (λ (y : Slot). handed_out b s (value_in y)) (slot_fine m b s i (fine sight_at) (within sight_at)))
+          sym (ap (λ (y : Option Field). handed_out b s (value_in y)) (slot_fine m b s i (fine sight_at) (within sight_at)))

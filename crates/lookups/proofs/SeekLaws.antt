@@ -1,4 +1,5 @@
 -- Laws of a search among the first fields of a table. Assumes nothing.
+use Rattle.std.specs.Prelude.{Err, None, Ok, Some}
 use mathlib.Core.Path.{◌≡◌, refl, ◌∙◌}
 use mathlib.Core.Bool.{Bool, true, false}
 use mathlib.Core.List.{List, [], ◌∷◌, map}
@@ -11,11 +12,9 @@ use Rattle.leaves.specs.Choice.{when◌then◌else◌}
 use Rattle.maps.specs.Places.{no_field}
 use Rattle.maps.specs.Good.{live, checked_done}
 use Rattle.maps.specs.declared.Field.{Field}
-use Rattle.maps.specs.declared.Checked.TheVariants.{Fine, Refused as No}
 use Rattle.maps.specs.declared.HeaderMap.{HeaderMap}
 use Rattle.maps.proofs.GoodLaws.{goes_on, refused_by}
 use Rattle.leaves.specs.declared.refusals.Refusal.{Refusal}
-use Rattle.lookups.specs.declared.Found.TheVariants.{Nth, Missing, Refused}
 use Rattle.lookups.specs.Lookups.{named, seeking, finding}
 
 module _ (t : List Field) (n i : ℕ) where
@@ -31,7 +30,7 @@ module _ (t : List Field) (n i : ℕ) where
       drop_of_length-le (take n t) k
 
   module _ (p : Field → Bool) where
-    pub seek_hit : n ≤ length t → i < n → p (get_or t i no_field) ≡ true → seeking p i (drop i (take n t)) ≡ Nth i
+    pub seek_hit : n ≤ length t → i < n → p (get_or t i no_field) ≡ true → seeking p i (drop i (take n t)) ≡ Ok (Some i)
     unfolding seeking when◌then◌else◌
     seek_hit w h e = rw (live_cons w h, e)
 
@@ -39,7 +38,7 @@ module _ (t : List Field) (n i : ℕ) where
     unfolding seeking when◌then◌else◌
     seek_more w h e = rw (live_cons w h, e)
 
-    pub seek_end : n ≤ i → seeking p i (drop i (take n t)) ≡ Missing
+    pub seek_end : n ≤ i → seeking p i (drop i (take n t)) ≡ Ok None
     unfolding seeking
     seek_end h = rw (live_end h)
 
@@ -54,10 +53,10 @@ seek_map f p q n (x ∷ xs) e =
     rw (h, seek_map f p q (n + 1) xs t)
 
 module _ (m : HeaderMap) (b s name : List ℕ) (from : ℕ) where
-  pub find_fine : Fine ≡ checked_done m b s → finding m b s name from ≡ seeking (named b s name) from (drop from (live m))
+  pub find_fine : Ok tt ≡ checked_done m b s → finding m b s name from ≡ seeking (named b s name) from (drop from (live m))
   unfolding finding
-  find_fine e = goes_on Refused _ _ e
+  find_fine e = goes_on Err _ _ e
 
-  pub find_refused : (x : Refusal) → No x ≡ checked_done m b s → finding m b s name from ≡ Refused x
+  pub find_refused : (x : Refusal) → Err x ≡ checked_done m b s → finding m b s name from ≡ Err x
   unfolding finding
-  find_refused x e = refused_by Refused _ _ x e
+  find_refused x e = refused_by Err _ _ x e

@@ -1,64 +1,56 @@
 -- What a lookup finds, and what the lookups hand out. Assumes nothing.
-use Rattle.std.specs.Prelude.{◌≡◌, Bool, List, [], ◌∷◌, ℕ, ◌+◌, ltb, get_or, drop}
-use Rattle.std.proofs.Math.Option.{Option, none, some}
+use Rattle.leaves.specs.declared.refusals.Refusal.{Refusal}
+use Rattle.std.specs.Prelude.{◌≡◌, Bool, List, [], ◌∷◌, ℕ, ◌+◌, ltb, get_or, drop, Err, None, Ok, Option, Result, Some}
 use Rattle.leaves.specs.Choice.{when◌then◌else◌}
 use Rattle.leaves.specs.Name.{same_name}
 use Rattle.maps.specs.Places.{at, no_field, begins, Same}
 use Rattle.maps.specs.Good.{live, checked_done, unless}
 use Rattle.maps.specs.declared.Field.{Field}
 use Rattle.maps.specs.declared.Place.{Place}
-use Rattle.maps.specs.declared.Status.{Status}
-use Rattle.maps.specs.declared.Status.TheVariants.{Absent, At as Stands}
 use Rattle.maps.specs.declared.HeaderMap.{HeaderMap}
-use Rattle.lookups.specs.declared.Found.{Found}
-use Rattle.lookups.specs.declared.Found.TheVariants.{Nth, Missing, Refused}
-use Rattle.lookups.specs.declared.Sighted.{Sighted}
-use Rattle.lookups.specs.declared.Sighted.TheVariants.{Sees, Missing as Unseen, Refused as Blind}
-use Rattle.lookups.specs.declared.Slot.{Slot}
-use Rattle.lookups.specs.declared.Slot.TheVariants.{Nothing, Holds}
 
 -- "Names compare without ASCII case." "Lookup keys aren't sanitised."
 unfoldable pub named : List ℕ → List ℕ → List ℕ → Field → Bool
 named b s name x = same_name (at b s x.key) name
 
 -- the number of the first that passes, the first of them being number n
-unfoldable pub seeking {ℓ} : {A : Type ℓ} → (A → Bool) → ℕ → List A → Found
-seeking p n [] = Missing
-seeking p n (x ∷ xs) = when p x then Nth n else seeking p (n + 1) xs
+unfoldable pub seeking {ℓ} : {A : Type ℓ} → (A → Bool) → ℕ → List A → Result (Option ℕ) Refusal
+seeking p n [] = Ok None
+seeking p n (x ∷ xs) = when p x then Ok (Some n) else seeking p (n + 1) xs
 
 -- "A lookup from a given field number on gives missing or a field number."
-unfoldable pub finding : HeaderMap → List ℕ → List ℕ → List ℕ → ℕ → Found
-finding m b s name from = unless (checked_done m b s) Refused (seeking (named b s name) from (drop from (live m)))
+unfoldable pub finding : HeaderMap → List ℕ → List ℕ → List ℕ → ℕ → Result (Option ℕ) Refusal
+finding m b s name from = unless (checked_done m b s) Err (seeking (named b s name) from (drop from (live m)))
 
 -- a number that was found, with its field
-abbrev pub sighted_in : List Field → Found → Sighted
-sighted_in t (Nth i) = Sees i (get_or t i no_field)
-sighted_in t Missing = Unseen
-sighted_in t (Refused x) = Blind x
+abbrev pub sighted_in : List Field → Result (Option ℕ) Refusal → Result (Option (ℕ × Field)) Refusal
+sighted_in t (Ok (Some i)) = Ok (Some (i, (get_or t i no_field)))
+sighted_in t (Ok None) = Ok None
+sighted_in t (Err x) = Err x
 
 -- a lookup that gives the field too
-unfoldable pub sighting : HeaderMap → List ℕ → List ℕ → List ℕ → ℕ → Sighted
+unfoldable pub sighting : HeaderMap → List ℕ → List ℕ → List ℕ → ℕ → Result (Option (ℕ × Field)) Refusal
 sighting m b s name from = sighted_in m.table (finding m b s name from)
 
 -- the field number i, none "for a wrong number .. or a refusal"
-unfoldable pub slot_of : HeaderMap → List ℕ → List ℕ → ℕ → Slot
-slot_of m b s i = unless (checked_done m b s) (λ _. Nothing) (when ltb i m.fields then Holds (get_or m.table i no_field) else Nothing)
+unfoldable pub slot_of : HeaderMap → List ℕ → List ℕ → ℕ → Option Field
+slot_of m b s i = unless (checked_done m b s) (λ _. None) (when ltb i m.fields then Some (get_or m.table i no_field) else None)
 
 -- the status, none for a refusal
-unfoldable pub shown_status : HeaderMap → List ℕ → List ℕ → Status
-shown_status m b s = unless (checked_done m b s) (λ _. Absent) m.status
+unfoldable pub shown_status : HeaderMap → List ℕ → List ℕ → Option Place
+shown_status m b s = unless (checked_done m b s) (λ _. None) m.status
 
-abbrev pub value_in : Slot → Option Place
-value_in Nothing = none
-value_in (Holds x) = some x.value
+abbrev pub value_in : Option Field → Option Place
+value_in None = None
+value_in (Some x) = Some x.value
 
-abbrev pub key_in : Slot → Option Place
-key_in Nothing = none
-key_in (Holds x) = some x.key
+abbrev pub key_in : Option Field → Option Place
+key_in None = None
+key_in (Some x) = Some x.key
 
-abbrev pub status_in : Status → Option Place
-status_in Absent = none
-status_in (Stands p) = some p
+abbrev pub status_in : Option Place → Option Place
+status_in None = None
+status_in (Some p) = Some p
 
 -- the place of the value that is handed out
 abbrev pub value_place : HeaderMap → List ℕ → List ℕ → ℕ → Option Place
@@ -74,12 +66,12 @@ status_place m b s = status_in (shown_status m b s)
 -- status or a refusal it is the empty part at the start of the block": its octets, and where it begins in memory, the block being
 -- lent at x and the store at y
 abbrev pub handed_out : List ℕ → List ℕ → Option Place → List ℕ
-handed_out b s none = []
-handed_out b s (some p) = at b s p
+handed_out b s None = []
+handed_out b s (Some p) = at b s p
 
 abbrev pub handed_at : ℕ × ℕ → ℕ × ℕ → Option Place → ℕ × ℕ
-handed_at x y none = x
-handed_at x y (some p) = begins x y p
+handed_at x y None = x
+handed_at x y (Some p) = begins x y p
 
 -- what was handed out for a place are the octets r, at z
 pub record Handed (b s : List ℕ) (x y : ℕ × ℕ) (p : Option Place) (r : List ℕ) (z : ℕ × ℕ) : Type 0 where

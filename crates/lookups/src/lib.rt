@@ -4,24 +4,10 @@
 ghost use Rattle.std.specs.Prelude.{◌≡◌, ◌≤◌, take, drop};
 ghost use Rattle.lookups.specs.Lookups.{named, seeking, finding, sighted_in, sighting, slot_of, shown_status, value_place, key_place, status_place, Handed};
 
+use maps::Place;
 use leaves::names;
 use leaves::refusals::Refusal;
-use maps::{Checked, Field, HeaderMap, Status};
-
-#[derive(Clone, Copy)]
-pub enum Found {
-    Nth(usize),
-    Missing,
-    Refused(Refusal),
-}
-
-// A field that was found, with its number.
-#[derive(Clone, Copy)]
-pub enum Sighted {
-    Sees(usize, Field),
-    Missing,
-    Refused(Refusal),
-}
+use maps::{Field, HeaderMap};
 
 // The first field from a given number on that has a name.
 fn seek<'a>(
@@ -31,7 +17,7 @@ fn seek<'a>(
     store: &'a [u8],
     name: &[u8],
     from: usize,
-) -> Sighted
+) -> Result<Option<(usize, Field)>, Refusal>
     requires { n ≤ 256 }
     ensures { result ≡ sighted_in t (seeking (named block.now store.now name.now) from (drop from (take n t))) }
 {
@@ -41,11 +27,11 @@ fn seek<'a>(
         let p = f.key;
         let key = maps::part(block, store, p);
         if names::same_name(key, name) {
-            return Sighted::Sees(i, f);
+            return Ok(Some((i, f)));
         }
         i += 1;
     }
-    Sighted::Missing
+    Ok(None)
 }
 
 // The first field from a given number on that has a name, with its number: who wants its value too need not have the map judged again.
@@ -55,55 +41,48 @@ pub fn sight<'a>(
     store: &'a [u8],
     name: &[u8],
     from: usize,
-) -> Sighted
+) -> Result<Option<(usize, Field)>, Refusal>
     ensures { result ≡ sighting m block.now store.now name.now from }
 {
     let s = maps::check_done(m, block, store);
     match s {
-        Checked::Fine => {
+        Ok(()) => {
             let t = m.table;
             let n = m.fields;
             seek(t, n, block, store, name, from)
         }
-        Checked::Refused(x) => Sighted::Refused(x),
+        Err(x) => Err(x),
     }
 }
 
 // The number of the first field from a given number on that has a name.
-pub fn find<'a>(m: HeaderMap, block: &'a [u8], store: &'a [u8], name: &[u8], from: usize) -> Found
+pub fn find<'a>(m: HeaderMap, block: &'a [u8], store: &'a [u8], name: &[u8], from: usize) -> Result<Option<usize>, Refusal>
     ensures { result ≡ finding m block.now store.now name.now from }
 {
     let s = sight(m, block, store, name, from);
     match s {
-        Sighted::Sees(i, f) => Found::Nth(i),
-        Sighted::Missing => Found::Missing,
-        Sighted::Refused(x) => Found::Refused(x),
+        Ok(Some((i, f))) => Ok(Some(i)),
+        Ok(None) => Ok(None),
+        Err(x) => Err(x),
     }
-}
-
-// A field to hand a part of, or none.
-#[derive(Clone, Copy)]
-pub enum Slot {
-    Nothing,
-    Holds(Field),
 }
 
 // The field i: none for a wrong number or a refusal.
 #[tactic(auto, using(maps::proofs::GoodLaws::ready_of, crate::proofs::HandLaws::slot_fine, crate::proofs::HandLaws::slot_wrong, crate::proofs::HandLaws::slot_refused))]
-fn slot_at(m: HeaderMap, block: &[u8], store: &[u8], i: usize) -> Slot
+fn slot_at(m: HeaderMap, block: &[u8], store: &[u8], i: usize) -> Option<Field>
     ensures { result ≡ slot_of m block.now store.now i }
 {
     let s = maps::check_done(m, block, store);
     match s {
-        Checked::Fine => {
+        Ok(()) => {
             let n = m.fields;
             if i < n {
                 let f = m.table[i];
-                return Slot::Holds(f);
+                return Some(f);
             }
-            Slot::Nothing
+            None
         }
-        Checked::Refused(x) => Slot::Nothing,
+        Err(x) => None,
     }
 }
 
@@ -113,8 +92,8 @@ pub fn value<'a>(m: HeaderMap, block: &'a [u8], store: &'a [u8], i: usize) -> &'
 {
     let s = slot_at(m, block, store, i);
     match s {
-        Slot::Nothing => &block[0..0],
-        Slot::Holds(f) => {
+        None => &block[0..0],
+        Some(f) => {
             let p = f.value;
             maps::part(block, store, p)
         }
@@ -127,8 +106,8 @@ pub fn key<'a>(m: HeaderMap, block: &'a [u8], store: &'a [u8], i: usize) -> &'a 
 {
     let s = slot_at(m, block, store, i);
     match s {
-        Slot::Nothing => &block[0..0],
-        Slot::Holds(f) => {
+        None => &block[0..0],
+        Some(f) => {
             let p = f.key;
             maps::part(block, store, p)
         }
@@ -136,13 +115,13 @@ pub fn key<'a>(m: HeaderMap, block: &'a [u8], store: &'a [u8], i: usize) -> &'a 
 }
 
 // The status of a map that can be looked at.
-fn shown_status(m: HeaderMap, block: &[u8], store: &[u8]) -> Status
+fn shown_status(m: HeaderMap, block: &[u8], store: &[u8]) -> Option<Place>
     ensures { result ≡ shown_status m block.now store.now }
 {
     let s = maps::check_done(m, block, store);
     match s {
-        Checked::Fine => m.status,
-        Checked::Refused(x) => Status::Absent,
+        Ok(()) => m.status,
+        Err(x) => None,
     }
 }
 
@@ -152,7 +131,7 @@ pub fn status<'a>(m: HeaderMap, block: &'a [u8], store: &'a [u8]) -> &'a [u8]
 {
     let s = shown_status(m, block, store);
     match s {
-        Status::Absent => &block[0..0],
-        Status::At(p) => maps::part(block, store, p),
+        None => &block[0..0],
+        Some(p) => maps::part(block, store, p),
     }
 }

@@ -1,4 +1,5 @@
 -- Places that fit: in more room, in lists joined, cut and looked into, and in the loans. Assumes nothing.
+use Rattle.std.specs.Prelude.{Option}
 use mathlib.Core.List.{List, [], ◌∷◌, ◌++◌}
 use Prim.Native.Nat.{ℕ, zero, suc, ◌≤◌, ◌<◌}
 use native.Mathlib.Omega.{arith}
@@ -7,7 +8,6 @@ use Rattle.maps.specs.Places.{Within, no_field}
 use Rattle.maps.specs.Good.{Fits, lies_in_block, lies_in_store, Fit, FitAll, fit_none, fit_more, FitStatus, fit_absent, fit_at}
 use Rattle.maps.specs.declared.Field.{Field}
 use Rattle.maps.specs.declared.Place.{Place}
-use Rattle.maps.specs.declared.Status.{Status}
 
 -- what fits still fits when the block and the store have grown
 module _ {b b' s s' : ℕ} (h : b ≤ b') (k : s ≤ s') where
@@ -22,7 +22,7 @@ module _ {b b' s s' : ℕ} (h : b ≤ b') (k : s ≤ s') where
   all_mono fit_none = fit_none
   all_mono (fit_more f r) = fit_more (fit_mono f) (all_mono r)
 
-  pub status_mono : {t : Status} → FitStatus b s t → FitStatus b' s' t
+  pub status_mono : {t : Option Place} → FitStatus b s t → FitStatus b' s' t
   status_mono fit_absent = fit_absent
   status_mono (fit_at f) = fit_at (fits_mono f)
 

@@ -1,4 +1,5 @@
 -- A map is good exactly if the facts hold that make it so. Assumes nothing.
+use Rattle.std.specs.Prelude.{None, Option, Some}
 use mathlib.Core.Path.{◌≡◌, refl}
 use mathlib.Core.Bool.{Bool, true, ◌&&◌}
 use mathlib.Core.List.{List, [], ◌∷◌}
@@ -13,8 +14,6 @@ use Rattle.maps.specs.Maps.{empty}
 use Rattle.maps.specs.declared.Field.{Field}
 use Rattle.maps.specs.declared.Place.{Place}
 use Rattle.maps.specs.declared.Place.TheVariants.{Block, Store}
-use Rattle.maps.specs.declared.Status.{Status}
-use Rattle.maps.specs.declared.Status.TheVariants.{Absent, At}
 use Rattle.maps.specs.declared.Phase.{Phase}
 use Rattle.maps.specs.declared.HeaderMap.{HeaderMap}
 
@@ -32,11 +31,11 @@ module _ (count mark : ℕ) where
   fits_place (lies_in_block x y l h) = and_both _ _ (le-leb _ _ l) (le-leb _ _ h)
   fits_place (lies_in_store x y l h) = and_both _ _ (le-leb _ _ l) (le-leb _ _ h)
 
-  status_fits : (t : Status) → good_status count mark t ≡ true → FitStatus count mark t
-  status_fits Absent e = fit_absent
-  status_fits (At p) e = fit_at (place_fits p e)
+  status_fits : (t : Option Place) → good_status count mark t ≡ true → FitStatus count mark t
+  status_fits None e = fit_absent
+  status_fits (Some p) e = fit_at (place_fits p e)
 
-  fits_status : {t : Status} → FitStatus count mark t → good_status count mark t ≡ true
+  fits_status : {t : Option Place} → FitStatus count mark t → good_status count mark t ≡ true
   fits_status fit_absent = refl
   fits_status (fit_at f) = fits_place f
 

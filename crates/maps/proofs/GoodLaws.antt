@@ -1,4 +1,5 @@
 -- The tests of a map, as facts. Assumes nothing.
+use Rattle.std.specs.Prelude.{Err, Ok, Result, ⊤}
 use mathlib.Core.Path.{◌≡◌, refl, sym}
 use mathlib.Core.Bool.{Bool, true, false, ◌&&◌, false≢true}
 use mathlib.Core.List.{List, []}
@@ -19,8 +20,6 @@ use Rattle.maps.specs.declared.Phase.{Phase}
 use Rattle.maps.specs.declared.Phase.TheVariants.{Reading, Done}
 use Rattle.leaves.specs.declared.refusals.Refusal.{Refusal}
 use Rattle.leaves.specs.declared.refusals.Refusal.TheVariants.{ShortLoan, BadMap, WrongPhase}
-use Rattle.maps.specs.declared.Checked.{Checked}
-use Rattle.maps.specs.declared.Checked.TheVariants.{Fine, Refused}
 use Rattle.maps.specs.declared.HeaderMap.{HeaderMap}
 
 -- a test and what is asked behind it
@@ -71,43 +70,43 @@ no_fields count mark = refl
 
 -- what the first checks say
 module _ (ready : Bool) (m : HeaderMap) (b s : ℕ) where
-  pub checked_bad : good m ≡ false → Refused BadMap ≡ checked ready m b s
+  pub checked_bad : good m ≡ false → Err BadMap ≡ checked ready m b s
   unfolding checked
   checked_bad e = rw e
 
-  pub checked_short : good m ≡ true → lent m b s ≡ false → Refused ShortLoan ≡ checked ready m b s
+  pub checked_short : good m ≡ true → lent m b s ≡ false → Err ShortLoan ≡ checked ready m b s
   unfolding checked
   checked_short e f = rw (e, f)
 
-  pub checked_wrong : good m ≡ true → lent m b s ≡ true → ready ≡ false → Refused WrongPhase ≡ checked ready m b s
+  pub checked_wrong : good m ≡ true → lent m b s ≡ true → ready ≡ false → Err WrongPhase ≡ checked ready m b s
   unfolding checked
   checked_wrong e f g = rw (e, f, g)
 
-  pub checked_fine : good m ≡ true → lent m b s ≡ true → ready ≡ true → Fine ≡ checked ready m b s
+  pub checked_fine : good m ≡ true → lent m b s ≡ true → ready ≡ true → Ok tt ≡ checked ready m b s
   unfolding checked
   checked_fine e f g = rw (e, f, g)
 
 -- what a call gives whose first checks pass, and one that they refuse
 module _ {A : Type 0} (f : Refusal → A) (go : A) where
-  pub goes_on : (c : Checked) → Fine ≡ c → unless c f go ≡ go
+  pub goes_on : (c : Result ⊤ Refusal) → Ok tt ≡ c → unless c f go ≡ go
   goes_on c e = rw (sym e)
 
-  pub refused_by : (c : Checked) (x : Refusal) → Refused x ≡ c → unless c f go ≡ f x
+  pub refused_by : (c : Result ⊤ Refusal) (x : Refusal) → Err x ≡ c → unless c f go ≡ f x
   refused_by c x e = rw (sym e)
 
 abbrev Passes : Bool → Bool → Bool → Type 0
 Passes g l r = (g ≡ true) × (l ≡ true) × (r ≡ true)
 
-pub not_refused : {A : Type 0} (x : Refusal) → Fine ≡ Refused x → A
+pub not_refused : {A : Type 0} (x : Refusal) → Ok (tt {0}) ≡ Err x → A
 not_refused x p = clash (cc)
 
-passes : (g l r : Bool) → Fine ≡ first_of g l r → Passes g l r
+passes : (g l r : Bool) → Ok tt ≡ first_of g l r → Passes g l r
 passes false l r e = clash (cc)
 passes true false r e = clash (cc)
 passes true true false e = clash (cc)
 passes true true true e = (refl, refl, refl)
 
-pub checked_passes : (ready : Bool) (m : HeaderMap) (b s : ℕ) → Fine ≡ checked ready m b s → Passes (good m) (lent m b s) ready
+pub checked_passes : (ready : Bool) (m : HeaderMap) (b s : ℕ) → Ok tt ≡ checked ready m b s → Passes (good m) (lent m b s) ready
 unfolding checked
 checked_passes ready m b s e = passes (good m) (lent m b s) ready e
 
@@ -119,14 +118,14 @@ phase_done : (p : Phase) → is_done p ≡ true → p ≡ Done
 phase_done Reading e = absurd (false≢true e)
 phase_done Done e = refl
 
-pub is_reading_lem : (m : HeaderMap) (b s : List ℕ) → Fine ≡ checked_reading m b s → m.phase ≡ Reading
+pub is_reading_lem : (m : HeaderMap) (b s : List ℕ) → Ok tt ≡ checked_reading m b s → m.phase ≡ Reading
 is_reading_lem m b s e = phase_reading m.phase (checked_passes _ m _ _ e).2
 
-pub is_done_lem : (m : HeaderMap) (b s : List ℕ) → Fine ≡ checked_done m b s → m.phase ≡ Done
+pub is_done_lem : (m : HeaderMap) (b s : List ℕ) → Ok tt ≡ checked_done m b s → m.phase ≡ Done
 is_done_lem m b s e = phase_done m.phase (checked_passes _ m _ _ e).2
 
 -- so the map is ready
-pub ready_of : (ready : Bool) (m : HeaderMap) (b s : List ℕ) → Fine ≡ checked ready m (length b) (length s) → Ready m b s
+pub ready_of : (ready : Bool) (m : HeaderMap) (b s : List ℕ) → Ok tt ≡ checked ready m (length b) (length s) → Ready m b s
 ready_of ready m b s e =
     let p = checked_passes ready m (length b) (length s) e in
     let f = good_facts m p.0 in

@@ -1,7 +1,7 @@
 -- What a map says, part by part. Assumes nothing.
+use Rattle.std.specs.Prelude.{Option}
 use mathlib.Core.Path.{◌≡◌, refl}
 use mathlib.Core.List.{List, map}
-use mathlib.Core.Option.{Option}
 use Prim.Native.Nat.{ℕ}
 use Rattle.maps.specs.Good.{live}
 use Rattle.maps.specs.Said.{Pair, Said, pair_at, status_at, saying}

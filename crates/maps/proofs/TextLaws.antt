@@ -1,7 +1,7 @@
 -- What places that fit say hangs on the octets below the count and the mark alone. Assumes nothing.
+use Rattle.std.specs.Prelude.{Option, Some}
 use mathlib.Core.Path.{◌≡◌, refl, sym, ap, ◌∙◌}
 use mathlib.Core.List.{List, ◌++◌, map}
-use mathlib.Core.Option.{some}
 use Prim.Native.Nat.{ℕ, ◌-◌, ◌≤◌}
 use native.Mathlib.Omega.{arith}
 use lib.ListN.{length, take, drop}
@@ -12,7 +12,6 @@ use Rattle.maps.specs.Good.{Fits, lies_in_block, lies_in_store, FitAll, fit_none
 use Rattle.maps.specs.Said.{pair_at, status_at}
 use Rattle.maps.specs.declared.Field.{Field}
 use Rattle.maps.specs.declared.Place.{Place}
-use Rattle.maps.specs.declared.Status.{Status}
 
 -- a part that ends before n is one of the first n
 pub part_cut : (l : List ℕ) (i j n : ℕ) → j ≤ n → part i j (take n l) ≡ part i j l
@@ -28,9 +27,9 @@ module _ (count mark : ℕ) (b b' s s' : List ℕ) (e : take count b ≡ take co
   same_at (lies_in_block i j l h) = part_same b b' i j count h e
   same_at (lies_in_store i j l h) = part_same s s' i j mark h g
 
-  pub same_status_lem : {t : Status} → FitStatus count mark t → status_at b s t ≡ status_at b' s' t
+  pub same_status_lem : {t : Option Place} → FitStatus count mark t → status_at b s t ≡ status_at b' s' t
   same_status_lem fit_absent = refl
-  same_status_lem (fit_at f) = ap some (same_at f)
+  same_status_lem (fit_at f) = ap Some (same_at f)
 
   pub same_pairs_lem : {xs : List Field} → FitAll count mark xs → map (pair_at b s) xs ≡ map (pair_at b' s') xs
   same_pairs_lem fit_none = refl
@@ -44,7 +43,7 @@ module _ (b s x y : List ℕ) where
   pub at_front : {p : Place} → Fits (length b) (length s) p → at (b ++ x) (s ++ y) p ≡ at b s p
   at_front f = same_at (length b) (length s) (b ++ x) b (s ++ y) s (front b x) (front s y) f
 
-  pub status_front : {t : Status} → FitStatus (length b) (length s) t → status_at (b ++ x) (s ++ y) t ≡ status_at b s t
+  pub status_front : {t : Option Place} → FitStatus (length b) (length s) t → status_at (b ++ x) (s ++ y) t ≡ status_at b s t
   status_front f = same_status_lem (length b) (length s) (b ++ x) b (s ++ y) s (front b x) (front s y) f
 
   pub pairs_front : {xs : List Field} → FitAll (length b) (length s) xs → map (pair_at (b ++ x) (s ++ y)) xs ≡ map (pair_at b s) xs

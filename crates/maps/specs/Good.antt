@@ -1,18 +1,14 @@
 -- What makes a map good, and the refusals that every call makes first. Assumes nothing.
-use Rattle.std.specs.Prelude.{◌≡◌, Bool, true, false, ◌&&◌, List, [], ◌∷◌, ℕ, ◌≤◌, leb, length, take}
+use Rattle.std.specs.Prelude.{◌≡◌, Bool, true, false, ◌&&◌, List, [], ◌∷◌, ℕ, ◌≤◌, leb, length, take, Err, None, Ok, Option, Result, Some, ⊤}
 use Rattle.leaves.specs.declared.refusals.Refusal.{Refusal}
 use Rattle.leaves.specs.Refusals.{refusal}
 use Rattle.maps.specs.Places.{in_block, in_store}
 use Rattle.maps.specs.declared.Place.{Place}
 use Rattle.maps.specs.declared.Place.TheVariants.{Block, Store}
 use Rattle.maps.specs.declared.Field.{Field}
-use Rattle.maps.specs.declared.Status.{Status}
-use Rattle.maps.specs.declared.Status.TheVariants.{Absent, At}
 use Rattle.maps.specs.declared.Phase.{Phase}
 use Rattle.maps.specs.declared.Phase.TheVariants.{Reading, Done}
 use Rattle.maps.specs.declared.HeaderMap.{HeaderMap}
-use Rattle.maps.specs.declared.Checked.{Checked}
-use Rattle.maps.specs.declared.Checked.TheVariants.{Fine, Refused}
 
 -- "default 32,768"
 abbrev pub default_limit : ℕ
@@ -31,9 +27,9 @@ abbrev pub good_place : ℕ → ℕ → Place → Bool
 good_place count mark (Block a e) = leb a.0 e.0 && leb e.0 count
 good_place count mark (Store a e) = leb a.0 e.0 && leb e.0 mark
 
-abbrev pub good_status : ℕ → ℕ → Status → Bool
-good_status count mark Absent = true
-good_status count mark (At p) = good_place count mark p
+abbrev pub good_status : ℕ → ℕ → Option Place → Bool
+good_status count mark None = true
+good_status count mark (Some p) = good_place count mark p
 
 abbrev pub good_field : ℕ → ℕ → Field → Bool
 good_field count mark x = good_place count mark x.key && good_place count mark x.value
@@ -66,26 +62,26 @@ is_done Reading = false
 is_done Done = true
 
 -- "Every other map call checks 3, 2, 7"
-abbrev pub first_of : Bool → Bool → Bool → Checked
-first_of false long ready = Refused (refusal 3)
-first_of true false ready = Refused (refusal 2)
-first_of true true false = Refused (refusal 7)
-first_of true true true = Fine
+abbrev pub first_of : Bool → Bool → Bool → Result ⊤ Refusal
+first_of false long ready = Err (refusal 3)
+first_of true false ready = Err (refusal 2)
+first_of true true false = Err (refusal 7)
+first_of true true true = Ok tt
 
-unfoldable pub checked : Bool → HeaderMap → ℕ → ℕ → Checked
+unfoldable pub checked : Bool → HeaderMap → ℕ → ℕ → Result ⊤ Refusal
 checked ready m b s = first_of (good m) (lent m b s) ready
 
 -- "7 feed or finish on Done; any other call but begin and clear on Reading"
-abbrev pub checked_reading : HeaderMap → List ℕ → List ℕ → Checked
+abbrev pub checked_reading : HeaderMap → List ℕ → List ℕ → Result ⊤ Refusal
 checked_reading m b s = checked (is_reading m.phase) m (length b) (length s)
 
-abbrev pub checked_done : HeaderMap → List ℕ → List ℕ → Checked
+abbrev pub checked_done : HeaderMap → List ℕ → List ℕ → Result ⊤ Refusal
 checked_done m b s = checked (is_done m.phase) m (length b) (length s)
 
 -- by what the first checks said
-abbrev pub unless {ℓ} : {A : Type ℓ} → Checked → (Refusal → A) → A → A
-unless Fine refuse go = go
-unless (Refused x) refuse go = refuse x
+abbrev pub unless {ℓ} : {A : Type ℓ} → Result ⊤ Refusal → (Refusal → A) → A → A
+unless (Ok tt) refuse go = go
+unless (Err x) refuse go = refuse x
 
 -- a place that is not reversed, nor past b in the block or s in the store
 pub data Fits (b s : ℕ) : Place → Type 0 where
@@ -100,9 +96,9 @@ pub data FitAll (b s : ℕ) : List Field → Type 0 where
   fit_none : FitAll b s []
   fit_more : {x : Field} {xs : List Field} → Fit b s x → FitAll b s xs → FitAll b s (x ∷ xs)
 
-pub data FitStatus (b s : ℕ) : Status → Type 0 where
-  fit_absent : FitStatus b s Absent
-  fit_at : {p : Place} → Fits b s p → FitStatus b s (At p)
+pub data FitStatus (b s : ℕ) : Option Place → Type 0 where
+  fit_absent : FitStatus b s None
+  fit_at : {p : Place} → Fits b s p → FitStatus b s (Some p)
 
 -- a good map with long enough loans, as facts
 pub record Ready (m : HeaderMap) (b s : List ℕ) : Type 0 where

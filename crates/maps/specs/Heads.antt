@@ -1,9 +1,8 @@
 -- A map but for its table, and the map of a table under it. Assumes nothing.
-use Rattle.std.specs.Prelude.{Bool, false, List, ℕ}
+use Rattle.std.specs.Prelude.{Bool, false, List, ℕ, None}
 use Rattle.maps.specs.declared.Field.{Field}
 use Rattle.maps.specs.declared.Head.{Head}
 use Rattle.maps.specs.declared.HeaderMap.{HeaderMap}
-use Rattle.maps.specs.declared.Status.TheVariants.{Absent}
 use Rattle.maps.specs.declared.Phase.{Phase}
 use Rattle.maps.specs.declared.Phase.TheVariants.{Done}
 
@@ -52,7 +51,7 @@ empty_head limit room awaits quirks phase =
       line = 0;
       mark = 0;
       fields = 0;
-      status = Absent;
+      status = None;
       awaits = awaits;
       quirks = quirks;
       edited = false;

@@ -1,8 +1,7 @@
 -- Maps made from nothing or emptied, and the form of every call's contract. Assumes nothing.
-use Rattle.std.specs.Prelude.{◌≡◌, Bool, false, List, ℕ, replicate}
+use Rattle.std.specs.Prelude.{◌≡◌, Bool, false, List, ℕ, replicate, None}
 use Rattle.maps.specs.Places.{no_field}
 use Rattle.maps.specs.declared.Field.{Field}
-use Rattle.maps.specs.declared.Status.TheVariants.{Absent}
 use Rattle.maps.specs.declared.Phase.{Phase}
 use Rattle.maps.specs.declared.Phase.TheVariants.{Done}
 use Rattle.maps.specs.declared.HeaderMap.{HeaderMap}
@@ -19,7 +18,7 @@ empty table limit room awaits quirks phase =
       line = 0;
       mark = 0;
       fields = 0;
-      status = Absent;
+      status = None;
       awaits = awaits;
       quirks = quirks;
       edited = false;

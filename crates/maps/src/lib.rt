@@ -38,12 +38,6 @@ pub struct Field {
 }
 
 #[derive(Clone, Copy)]
-pub enum Status {
-    Absent,
-    At(Place),
-}
-
-#[derive(Clone, Copy)]
 pub enum Phase {
     Reading,
     Done,
@@ -59,7 +53,7 @@ pub struct HeaderMap {
     pub line: usize,
     pub mark: usize,
     pub fields: usize,
-    pub status: Status,
+    pub status: Option<Place>,
     pub awaits: bool,
     pub quirks: bool,
     pub edited: bool,
@@ -83,7 +77,7 @@ impl HeaderMap {
             line: 0,
             mark: 0,
             fields: 0,
-            status: Status::Absent,
+            status: None,
             awaits: false,
             quirks: false,
             edited: false,
@@ -101,18 +95,11 @@ pub struct Head {
     pub line: usize,
     pub mark: usize,
     pub fields: usize,
-    pub status: Status,
+    pub status: Option<Place>,
     pub awaits: bool,
     pub quirks: bool,
     pub edited: bool,
     pub phase: Phase,
-}
-
-// What a call's first checks say.
-#[derive(Clone, Copy)]
-pub enum Checked {
-    Fine,
-    Refused(Refusal),
 }
 
 // An offset as an index.
@@ -194,12 +181,12 @@ fn good_place(p: Place, count: usize, mark: usize) -> bool
     }
 }
 
-pub fn good_status(s: Status, count: usize, mark: usize) -> bool
+pub fn good_status(s: Option<Place>, count: usize, mark: usize) -> bool
     ensures { result ≡ good_status count mark s }
 {
     match s {
-        Status::Absent => true,
-        Status::At(p) => good_place(p, count, mark),
+        None => true,
+        Some(p) => good_place(p, count, mark),
     }
 }
 
@@ -293,7 +280,7 @@ fn is_good(m: HeaderMap) -> bool
 }
 
 // What every call but begin checks first: 3, 2, 7. Ready says whether the map's phase is the one that the call wants.
-pub fn check(m: HeaderMap, ready: bool, block: usize, store: usize) -> Checked
+pub fn check(m: HeaderMap, ready: bool, block: usize, store: usize) -> Result<(), Refusal>
     ensures { result ≡ checked ready m block store }
 {
     let limit = m.limit;
@@ -302,15 +289,15 @@ pub fn check(m: HeaderMap, ready: bool, block: usize, store: usize) -> Checked
         if limit <= block {
             if room <= store {
                 if ready {
-                    return Checked::Fine;
+                    return Ok(());
                 }
-                return Checked::Refused(Refusal::WrongPhase);
+                return Err(Refusal::WrongPhase);
             }
-            return Checked::Refused(Refusal::ShortLoan);
+            return Err(Refusal::ShortLoan);
         }
-        return Checked::Refused(Refusal::ShortLoan);
+        return Err(Refusal::ShortLoan);
     }
-    Checked::Refused(Refusal::BadMap)
+    Err(Refusal::BadMap)
 }
 
 pub fn is_reading(p: Phase) -> bool
@@ -332,7 +319,7 @@ pub fn is_done(p: Phase) -> bool
 }
 
 // The first checks of a call that wants a map that is Done.
-pub fn check_done(m: HeaderMap, block: &[u8], store: &[u8]) -> Checked
+pub fn check_done(m: HeaderMap, block: &[u8], store: &[u8]) -> Result<(), Refusal>
     ensures { result ≡ checked_done m block.now store.now }
 {
     let phase = m.phase;

@@ -1,8 +1,8 @@
 -- What a header opens, case by case. Assumes nothing.
+use Rattle.std.specs.Prelude.{Err, None, Ok, Option, Some}
 use mathlib.Core.Path.{◌≡◌, refl, sym, ap, ◌∙◌}
 use mathlib.Core.Bool.{Bool, true, false}
 use mathlib.Core.List.{List, []}
-use mathlib.Core.Option.{Option, none, some}
 use Prim.Native.Nat.{ℕ, min, ◌≤◌, ◌<◌}
 use native.Mathlib.Omega.{arith}
 use borrow.Author.Tests.{le-leb, lt-leb, leb-true, leb-false}
@@ -18,14 +18,11 @@ use Rattle.standard.specs.declared.names.WarcHeader.TheVariants.{WarcType, Conte
 use Rattle.maps.specs.Places.{at}
 use Rattle.maps.specs.Good.{checked_done}
 use Rattle.maps.specs.declared.Place.{Place}
-use Rattle.maps.specs.declared.Status.TheVariants.{Absent, At}
-use Rattle.maps.specs.declared.Checked.TheVariants.{Fine, Refused as Bad}
 use Rattle.maps.specs.declared.HeaderMap.{HeaderMap}
 use Rattle.maps.proofs.GoodLaws.{goes_on, refused_by}
 use Rattle.maps.specs.Said.{Said, text_of, saying}
 use Rattle.openings.specs.Opening.{longest, version_text, is_version, is_length, type_of, opened, opening}
 use Rattle.openings.specs.Sights.{spotted, length_text, kind_code, opened_by, opened_at}
-use Rattle.openings.specs.declared.Opening.TheVariants.{Record, Refused}
 use Rattle.openings.specs.declared.Spots.{Spots}
 use Rattle.openings.proofs.SightLaws.{only_seen, type_seen}
 use Rattle.singles.specs.Single.{values_of, only_value}
@@ -67,33 +64,33 @@ length_is v n t e =
 
 -- what texts open
 module _ (t v : List ℕ) (k : ℕ) (x : List ℕ) (e : x ≡ trimmed t) where
-  pub texts_nine : version_text x ≡ false → Refused BadVersion ≡ opened_by t v k
+  pub texts_nine : version_text x ≡ false → Err BadVersion ≡ opened_by t v k
   unfolding opened_by
   texts_nine f = sym (if_false _ _ (ap version_text (sym e) ∙ f))
 
   module _ (f : version_text x ≡ true) where
-    pub texts_ten : is_length v ≡ false → Refused BadLength ≡ opened_by t v k
+    pub texts_ten : is_length v ≡ false → Err BadLength ≡ opened_by t v k
     unfolding opened_by
     texts_ten g = sym (if_true _ _ (ap version_text (sym e) ∙ f) ∙ if_false _ _ g)
 
-    pub texts_record : is_length v ≡ true → (n : ℕ) → n ≡ content_length v → Record n k ≡ opened_by t v k
+    pub texts_record : is_length v ≡ true → (n : ℕ) → n ≡ content_length v → Ok (n, k) ≡ opened_by t v k
     unfolding opened_by
-    texts_record g n h = ap (λ (d : ℕ). Record d k) (length_is v n g h) ∙ sym (if_true _ _ (ap version_text (sym e) ∙ f) ∙ if_true _ _ g)
+    texts_record g n h = ap (λ (d : ℕ). Ok (d, k)) (length_is v n g h) ∙ sym (if_true _ _ (ap version_text (sym e) ∙ f) ∙ if_true _ _ g)
 
 module _ (b s : List ℕ) (z : Spots) where
-  pub spots_nine : Refused BadVersion ≡ opened_at b s Absent z
+  pub spots_nine : Err BadVersion ≡ opened_at b s None z
   unfolding opened_at trim_end trim_start leading same_list
   spots_nine = texts_nine [] (length_text b s z.lengths z.length) (kind_code b s z.kinds z.kind) (trimmed []) refl refl
 
   pub spots_texts : (p : Place) (t v : List ℕ) (k : ℕ) → t ≡ at b s p → v ≡ length_text b s z.lengths z.length → k ≡ kind_code b s z.kinds z.kind
-      → opened_by t v k ≡ opened_at b s (At p) z
+      → opened_by t v k ≡ opened_at b s (Some p) z
   unfolding opened_at
   spots_texts p t v k e f g = rw (e, f, g)
 
 version_by : (x : Option (List ℕ)) → version_text (trimmed (text_of x)) ≡ is_version x
 unfolding same_list trim_end trim_start leading
-version_by none = refl
-version_by (some t) = refl
+version_by None = refl
+version_by (Some t) = refl
 
 opened_by_lem : (x : Said) (v : List ℕ) (k : ℕ) → v ≡ only_value (name_of ContentLength) x → k ≡ type_of (values_of (name_of WarcType) x.pairs)
     → opened_by (text_of x.status) v k ≡ opened x
@@ -107,10 +104,10 @@ module _ (m : HeaderMap) (b s : List ℕ) where
   opened_spots =
       opened_by_lem (saying m b s) _ _ (only_seen b s (name_of ContentLength) m.table m.fields) (type_seen b s (name_of WarcType) m.table m.fields)
 
-  pub opening_goes : Fine ≡ checked_done m b s → opening m b s ≡ opened (saying m b s)
+  pub opening_goes : Ok tt ≡ checked_done m b s → opening m b s ≡ opened (saying m b s)
   unfolding opening
-  opening_goes e = goes_on Refused _ _ e
+  opening_goes e = goes_on Err _ _ e
 
-  pub opening_refused : (x : Refusal) → Bad x ≡ checked_done m b s → opening m b s ≡ Refused x
+  pub opening_refused : (x : Refusal) → Err x ≡ checked_done m b s → opening m b s ≡ Err x
   unfolding opening
-  opening_refused x e = refused_by Refused _ _ x e
+  opening_refused x e = refused_by Err _ _ x e

@@ -1,6 +1,6 @@
 -- What a header opens, over what its map says: 9, 10 and the record. Assumes nothing.
-use Rattle.std.specs.Prelude.{Bool, false, ◌&&◌, ◌||◌, List, [], ◌∷◌, ℕ, leb}
-use Rattle.std.proofs.Math.Option.{Option, none, some}
+use Rattle.leaves.specs.declared.refusals.Refusal.{Refusal}
+use Rattle.std.specs.Prelude.{Bool, false, ◌&&◌, ◌||◌, List, [], ◌∷◌, ℕ, leb, Err, None, Ok, Option, Result, Some}
 use Rattle.leaves.specs.Choice.{when◌then◌else◌}
 use Rattle.leaves.specs.Octets.{octets, same_list}
 use Rattle.leaves.specs.Number.{decimal, is_decimal}
@@ -13,8 +13,6 @@ use Rattle.maps.specs.Good.{checked_done, unless}
 use Rattle.maps.specs.declared.HeaderMap.{HeaderMap}
 use Rattle.maps.specs.Said.{Said, saying}
 use Rattle.singles.specs.Single.{values_of, only_value}
-use Rattle.openings.specs.declared.Opening.{Opening}
-use Rattle.openings.specs.declared.Opening.TheVariants.{Record, Refused}
 
 -- "over 1,099,511,627,776"
 abbrev pub longest : ℕ
@@ -26,8 +24,8 @@ version_text t = same_list t (octets "WARC/1.0") || same_list t (octets "WARC/1.
 
 -- "9 looks at the trimmed status (absent is 9)"
 abbrev pub is_version : Option (List ℕ) → Bool
-is_version none = false
-is_version (some t) = version_text (trimmed t)
+is_version None = false
+is_version (Some t) = version_text (trimmed t)
 
 -- not "absent, repeated, not one or more digits, or over 1,099,511,627,776": a value absent or repeated is no octets here
 abbrev pub is_length : List ℕ → Bool
@@ -39,13 +37,13 @@ type_of [] = 0
 type_of (v ∷ vs) = type_code v
 
 -- "comes before 10, both after the header's end"
-unfoldable pub opened : Said → Opening
+unfoldable pub opened : Said → Result (ℕ × ℕ) Refusal
 opened x =
     when is_version x.status
     then when is_length (only_value (name_of ContentLength) x)
-    then Record (decimal (only_value (name_of ContentLength) x)) (type_of (values_of (name_of WarcType) x.pairs))
-    else Refused (refusal 10)
-    else Refused (refusal 9)
+    then Ok ((decimal (only_value (name_of ContentLength) x)), (type_of (values_of (name_of WarcType) x.pairs)))
+    else Err (refusal 10)
+    else Err (refusal 9)
 
-unfoldable pub opening : HeaderMap → List ℕ → List ℕ → Opening
-opening m b s = unless (checked_done m b s) Refused (opened (saying m b s))
+unfoldable pub opening : HeaderMap → List ℕ → List ℕ → Result (ℕ × ℕ) Refusal
+opening m b s = unless (checked_done m b s) Err (opened (saying m b s))

@@ -1,5 +1,6 @@
 -- What one pass over the fields sees of the names that open a record. Assumes nothing.
-use Rattle.std.specs.Prelude.{Bool, true, false, List, [], ◌∷◌, ℕ, ◌+◌, eqb, take, get_or}
+use Rattle.leaves.specs.declared.refusals.Refusal.{Refusal}
+use Rattle.std.specs.Prelude.{Bool, true, false, List, [], ◌∷◌, ℕ, ◌+◌, eqb, take, get_or, Err, Ok, Option, Result}
 use Rattle.leaves.specs.Choice.{when◌then◌else◌}
 use Rattle.leaves.specs.Name.{same_name}
 use Rattle.leaves.specs.Number.{decimal}
@@ -12,11 +13,8 @@ use Rattle.maps.specs.Places.{at, no_field}
 use Rattle.maps.specs.Said.{status_at, text_of}
 use Rattle.maps.specs.declared.Field.{Field}
 use Rattle.maps.specs.declared.Place.{Place}
-use Rattle.maps.specs.declared.Status.{Status}
 use Rattle.lookups.specs.Lookups.{named}
 use Rattle.openings.specs.Opening.{version_text, is_length}
-use Rattle.openings.specs.declared.Opening.{Opening}
-use Rattle.openings.specs.declared.Opening.TheVariants.{Record, Refused}
 use Rattle.openings.specs.declared.Sight.{Sight}
 use Rattle.openings.specs.declared.Sights.{Sights}
 use Rattle.openings.specs.declared.Spots.{Spots}
@@ -80,13 +78,13 @@ unfoldable pub kind_code : List ℕ → List ℕ → ℕ → Place → ℕ
 kind_code b s times p = when eqb times 0 then 0 else type_code (at b s p)
 
 -- what a status, the value of the only `Content-Length` and a type open
-unfoldable pub opened_by : List ℕ → List ℕ → ℕ → Opening
+unfoldable pub opened_by : List ℕ → List ℕ → ℕ → Result (ℕ × ℕ) Refusal
 opened_by t v k =
     when version_text (trimmed t)
-    then when is_length v then Record (decimal v) k else Refused (refusal 10)
-    else Refused (refusal 9)
+    then when is_length v then Ok ((decimal v), k) else Err (refusal 10)
+    else Err (refusal 9)
 
 -- what a status and spots open
-unfoldable pub opened_at : List ℕ → List ℕ → Status → Spots → Opening
+unfoldable pub opened_at : List ℕ → List ℕ → Option Place → Spots → Result (ℕ × ℕ) Refusal
 opened_at b s status z =
     opened_by (text_of (status_at b s status)) (length_text b s z.lengths z.length) (kind_code b s z.kinds z.kind)

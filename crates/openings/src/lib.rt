@@ -3,25 +3,17 @@
 
 ghost use Rattle.std.specs.Prelude.{◌≡◌, ◌≤◌};
 ghost use Rattle.maps.specs.Good.{checked_done};
-ghost use Rattle.maps.specs.declared.Checked.TheVariants.{Fine};
 ghost use Rattle.maps.specs.Said.{saying};
 ghost use Rattle.openings.specs.Opening.{version_text, is_length, opened, opening};
 ghost use Rattle.openings.specs.Sights.{seen, noted, spotted, length_text, kind_code, opened_by, opened_at};
 
 use leaves::refusals::Refusal;
 use leaves::{lengths, names, trims};
-use maps::{Checked, Field, HeaderMap, Place, Status};
+use maps::{Field, HeaderMap, Place};
 use standard::types;
 
 // The largest Content-Length.
 pub const CAP: u64 = 1099511627776;
-
-// A record of a body length and a type, or a number.
-#[derive(Clone, Copy)]
-pub enum Opening {
-    Record(u64, u16),
-    Refused(Refusal),
-}
 
 // The number of the first field of a name that was seen, and how many were: 2 is two or more.
 #[derive(Clone, Copy)]
@@ -144,27 +136,27 @@ fn kind_code<'a>(times: usize, p: Place, block: &'a [u8], store: &'a [u8]) -> u1
 }
 
 // What a status, the value of the only Content-Length and a type open.
-fn open_texts(status: &[u8], value: &[u8], kind: u16) -> Opening
+fn open_texts(status: &[u8], value: &[u8], kind: u16) -> Result<(u64, u16), Refusal>
     ensures { result ≡ opened_by status.now value.now kind }
 {
     let text = trims::trim(status);
     if is_version(text) {
         if is_length(value) {
             let n = lengths::content_length(value);
-            return Opening::Record(n, kind);
+            return Ok((n, kind));
         }
-        return Opening::Refused(Refusal::BadLength);
+        return Err(Refusal::BadLength);
     }
-    Opening::Refused(Refusal::BadVersion)
+    Err(Refusal::BadVersion)
 }
 
 // What a status opens with what a pass over the fields found.
-pub fn open_spots<'a>(status: Status, z: Spots, block: &'a [u8], store: &'a [u8]) -> Opening
+pub fn open_spots<'a>(status: Option<Place>, z: Spots, block: &'a [u8], store: &'a [u8]) -> Result<(u64, u16), Refusal>
     ensures { result ≡ opened_at block.now store.now status z }
 {
     match status {
-        Status::Absent => Opening::Refused(Refusal::BadVersion),
-        Status::At(p) => {
+        None => Err(Refusal::BadVersion),
+        Some(p) => {
             let text = maps::part(block, store, p);
             let a = z.length;
             let e = z.kind;
@@ -176,8 +168,8 @@ pub fn open_spots<'a>(status: Status, z: Spots, block: &'a [u8], store: &'a [u8]
 }
 
 // What a map opens that was judged already.
-pub fn open_good<'a>(m: HeaderMap, block: &'a [u8], store: &'a [u8]) -> Opening
-    requires { Fine ≡ checked_done m block.now store.now }
+pub fn open_good<'a>(m: HeaderMap, block: &'a [u8], store: &'a [u8]) -> Result<(u64, u16), Refusal>
+    requires { Ok tt ≡ checked_done m block.now store.now }
     ensures { result ≡ opened (saying m block.now store.now) }
 {
     let status = m.status;
@@ -187,12 +179,12 @@ pub fn open_good<'a>(m: HeaderMap, block: &'a [u8], store: &'a [u8]) -> Opening
 }
 
 // What a map opens.
-pub fn open_record<'a>(m: HeaderMap, block: &'a [u8], store: &'a [u8]) -> Opening
+pub fn open_record<'a>(m: HeaderMap, block: &'a [u8], store: &'a [u8]) -> Result<(u64, u16), Refusal>
     ensures { result ≡ opening m block.now store.now }
 {
     let s = maps::check_done(m, block, store);
     match s {
-        Checked::Fine => open_good(m, block, store),
-        Checked::Refused(x) => Opening::Refused(x),
+        Ok(()) => open_good(m, block, store),
+        Err(x) => Err(x),
     }
 }

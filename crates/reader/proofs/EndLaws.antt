@@ -1,4 +1,6 @@
 -- What a turn makes of a table by value, and what a reading that stopped gives as the map and the loans of a call. Assumes nothing.
+use Rattle.leaves.specs.declared.refusals.Refusal.{Refusal}
+use Rattle.std.specs.Prelude.{Err, Ok, Result}
 use mathlib.Core.Path.{◌≡◌, refl, sym, ap, subst, ◌∙◌}
 use mathlib.Core.Bool.{Bool, true, false}
 use mathlib.Core.List.{List, []}
@@ -14,12 +16,12 @@ use Rattle.maps.specs.declared.Field.{Field}
 use Rattle.maps.specs.declared.Head.{Head}
 use Rattle.maps.specs.declared.HeaderMap.{HeaderMap}
 use Rattle.folds.specs.declared.Change.{Change}
-use Rattle.folds.specs.declared.Change.TheVariants.{Nothing, Status as Headed, Put, Refused as Stops}
+use Rattle.folds.specs.declared.Change.TheVariants.{Nothing, Status as Headed, Put}
 use Rattle.folds.proofs.ListLaws.{laid}
 use Rattle.line_reader.specs.Standing.{rules_of, answering}
 use Rattle.line_reader.specs.Handling.{Puts, slot_of, put_in, next_handled}
 use Rattle.line_reader.specs.declared.Answer.{Answer}
-use Rattle.line_reader.specs.declared.Answer.TheVariants.{More, Blank, Input, Refused}
+use Rattle.line_reader.specs.declared.Answer.TheVariants.{More, Blank, Input}
 use Rattle.line_reader.specs.declared.Handled.{Handled}
 use Rattle.line_reader.proofs.HeldLaws.{Frame, frame_of, Held, held_start, go_on, Feeding, feeding_on, later, one, handled_less}
 use Rattle.line_reader.proofs.LineSteps.{Seated, seated, Handles, handled_is, Ended}
@@ -29,19 +31,19 @@ use Rattle.reader.specs.declared.Fed.{Fed}
 use Rattle.reader.specs.declared.Spot.{Spot}
 
 -- a field that a change puts, or the last field put again, is what the change makes of the table
-put_spot : (t : List Field) (c : Change) (i : ℕ) → set t (spot_of c i (get_or t i no_field)).slot (spot_of c i (get_or t i no_field)).field ≡ put_in t c
-put_spot t Nothing i = set-get_or t i no_field
-put_spot t (Headed p) i = set-get_or t i no_field
-put_spot t (Put slot x to) i = refl
-put_spot t (Stops e) i = set-get_or t i no_field
+put_spot : (t : List Field) (c : Result Change Refusal) (i : ℕ) → set t (spot_of c i (get_or t i no_field)).slot (spot_of c i (get_or t i no_field)).field ≡ put_in t c
+put_spot t (Ok Nothing) i = set-get_or t i no_field
+put_spot t (Ok (Headed p)) i = set-get_or t i no_field
+put_spot t (Ok (Put slot x to)) i = refl
+put_spot t (Err e) i = set-get_or t i no_field
 
-spot_few : (c : Change) (i : ℕ) (x : Field) → slot_of c < 256 → i < 256 → (spot_of c i x).slot < 256
-spot_few Nothing i x h k = k
-spot_few (Headed p) i x h k = k
-spot_few (Put slot y to) i x h k = h
-spot_few (Stops e) i x h k = k
+spot_few : (c : Result Change Refusal) (i : ℕ) (x : Field) → slot_of c < 256 → i < 256 → (spot_of c i x).slot < 256
+spot_few (Ok Nothing) i x h k = k
+spot_few (Ok (Headed p)) i x h k = k
+spot_few (Ok (Put slot y to)) i x h k = h
+spot_few (Err e) i x h k = k
 
-module _ (t : List Field) (c : Change) {i n : ℕ} (place : i ≡ n - 1) (few : n ≤ 256) (w : Puts c) {k : Spot} (e : k ≡ spot_of c i (get_or t i no_field)) where
+module _ (t : List Field) (c : Result Change Refusal) {i n : ℕ} (place : i ≡ n - 1) (few : n ≤ 256) (w : Puts c) {k : Spot} (e : k ≡ spot_of c i (get_or t i no_field)) where
   pub spot_in : k.slot < 256
   spot_in = rw e (spot_few c i (get_or t i no_field) w.slot (omega (arith, place, few)))
 
@@ -49,7 +51,7 @@ module _ (t : List Field) (c : Change) {i n : ℕ} (place : i ≡ n - 1) (few : 
   spot_put = rw e (put_spot t c i)
 
 -- a turn of the loop, by the change that it made
-module _ {p b₀ s₀ b s : List ℕ} {m : HeaderMap} {at : ℕ} {a : Answer} {going : Bool} (t : List Field) (h : Head) (inv : Feeding p m b₀ s₀ 0 (under t h) b s at a going)
+module _ {p b₀ s₀ b s : List ℕ} {m : HeaderMap} {at : ℕ} {a : Result Answer Refusal} {going : Bool} (t : List Field) (h : Head) (inv : Feeding p m b₀ s₀ 0 (under t h) b s at a going)
     (go : going ≡ true) {i : ℕ} (place : i ≡ h.fields - 1) {r : Handled} {b' s' : List ℕ} (w : Is (next_handled h (get_or t i no_field) b s p at) r b' s') where
   handled_took : Handles p t h b s at r b' s'
   handled_took = handled_is (seated t h inv.held place) p at inv.held.read w
@@ -57,10 +59,10 @@ module _ {p b₀ s₀ b s : List ℕ} {m : HeaderMap} {at : ℕ} {a : Answer} {g
   pub handled_nears : (length p - r.taken) + one r.going < (length p - at) + one going
   handled_nears = handled_less (length p) at r.taken going r.going go (later handled_took.feeds.held) handled_took.feeds.held.read handled_took.further
 
-  pub handled_on : {c : Change} → r.change ≡ c → Feeding p m b₀ s₀ 0 (under (put_in t c) r.head) b' s' r.taken r.answer r.going
-  handled_on e = subst (λ (c : Change). Feeding p m b₀ s₀ 0 (under (put_in t c) r.head) b' s' r.taken r.answer r.going) e (feeding_on inv go handled_took.feeds)
+  pub handled_on : {c : Result Change Refusal} → r.change ≡ c → Feeding p m b₀ s₀ 0 (under (put_in t c) r.head) b' s' r.taken r.answer r.going
+  handled_on e = subst (λ (c : Result Change Refusal). Feeding p m b₀ s₀ 0 (under (put_in t c) r.head) b' s' r.taken r.answer r.going) e (feeding_on inv go handled_took.feeds)
 
-  pub handled_puts : {c : Change} → r.change ≡ c → Puts c
+  pub handled_puts : {c : Result Change Refusal} → r.change ≡ c → Puts c
   handled_puts e = subst Puts e handled_took.puts
 
 abbrev framed : Frame → Head → Head
@@ -79,7 +81,7 @@ framed f h =
       phase = f.phase;
     }
 
-abbrev ends_as : List Field → Head → ℕ → Answer → Fed
+abbrev ends_as : List Field → Head → ℕ → Result Answer Refusal → Fed
 ends_as t h at a = record { map = under t (head_after a h); taken = at; answer = a }
 
 -- what head_after leaves of a head, with the table, is the map of the answer
@@ -96,13 +98,13 @@ module _ {p : List ℕ} {m : HeaderMap} {b₀ s₀ b s : List ℕ} {at : ℕ} (t
   taken_is : h.count - m.count ≡ at
   taken_is = omega (arith, held.taken)
 
-  given : (a : Answer) → ends_as t (framed (frame_of m) h) at a ≡ (gives m b₀ s₀ (answering (under t h) b s a)).result
-  given More = rw (count_is, mark_is, fields_is, taken_is, laid t m.table h.fields held.kept_t)
-  given Blank = rw (count_is, mark_is, fields_is, taken_is, laid t m.table h.fields held.kept_t)
-  given Input = rw (count_is, mark_is, fields_is, taken_is, laid t m.table h.fields held.kept_t)
-  given (Refused e) = rw (count_is, fields_is, taken_is, laid t m.table h.fields held.kept_t)
+  given : (a : Result Answer Refusal) → ends_as t (framed (frame_of m) h) at a ≡ (gives m b₀ s₀ (answering (under t h) b s a)).result
+  given (Ok More) = rw (count_is, mark_is, fields_is, taken_is, laid t m.table h.fields held.kept_t)
+  given (Ok Blank) = rw (count_is, mark_is, fields_is, taken_is, laid t m.table h.fields held.kept_t)
+  given (Ok Input) = rw (count_is, mark_is, fields_is, taken_is, laid t m.table h.fields held.kept_t)
+  given (Err e) = rw (count_is, fields_is, taken_is, laid t m.table h.fields held.kept_t)
 
-  pub is_after : (a : Answer) → Is (gives m b₀ s₀ (answering (under t h) b s a)) (ends_as t h at a) b s
+  pub is_after : (a : Result Answer Refusal) → Is (gives m b₀ s₀ (answering (under t h) b s a)) (ends_as t h at a) b s
   is_after a =
       record {
         result = ap (λ (f : Frame). ends_as t (framed f h) at a) held.frame ∙ given a;
@@ -111,7 +113,7 @@ module _ {p : List ℕ} {m : HeaderMap} {b₀ s₀ b s : List ℕ} {at : ℕ} (t
       }
 
 -- the end of the loop
-pub feed_end : {p : List ℕ} {m : HeaderMap} {b₀ s₀ b s : List ℕ} {at : ℕ} {a : Answer} {going : Bool} (t : List Field) (h : Head)
+pub feed_end : {p : List ℕ} {m : HeaderMap} {b₀ s₀ b s : List ℕ} {at : ℕ} {a : Result Answer Refusal} {going : Bool} (t : List Field) (h : Head)
     → Feeding p m b₀ s₀ 0 (under t h) b s at a going → going ≡ false → Is (fed_from m b₀ s₀ p) (ends_as t h at a) b s
 unfolding fed_from
 feed_end {p} {m} {b₀} {s₀} {b} {s} {at} {a} {going} t h inv stop =

@@ -1,5 +1,5 @@
 -- The calls on a map and two loans: what each gives, for every input. Assumes nothing.
-use Rattle.std.specs.Prelude.{Bool, true, false, ◌&&◌, List, ℕ, ◌-◌, leb, length}
+use Rattle.std.specs.Prelude.{Bool, true, false, ◌&&◌, List, ℕ, ◌-◌, leb, length, Err, Ok, Result, ⊤}
 use Rattle.leaves.specs.Paste.{lay}
 use Rattle.leaves.specs.declared.refusals.Refusal.{Refusal}
 use Rattle.leaves.specs.Refusals.{refusal}
@@ -8,12 +8,10 @@ use Rattle.maps.specs.Maps.{empty, Given}
 use Rattle.maps.specs.declared.Phase.{Phase}
 use Rattle.maps.specs.declared.Phase.TheVariants.{Reading as Open, Done}
 use Rattle.maps.specs.declared.HeaderMap.{HeaderMap}
-use Rattle.maps.specs.declared.Checked.{Checked}
-use Rattle.maps.specs.declared.Checked.TheVariants.{Fine, Refused as Refuses}
 use Rattle.line_reader.specs.Reading.{Reading, fed, finished}
 use Rattle.line_reader.specs.Standing.{rules_of, reading_of}
 use Rattle.line_reader.specs.declared.Answer.{Answer}
-use Rattle.line_reader.specs.declared.Answer.TheVariants.{More, Blank, Input, Refused}
+use Rattle.line_reader.specs.declared.Answer.TheVariants.{More, Blank, Input}
 use Rattle.reader.specs.declared.Fed.{Fed}
 use Rattle.reader.specs.declared.Made.{Made}
 
@@ -36,15 +34,15 @@ map_at phase awaits quirks m r =
     }
 
 -- a reading that wants more stays as it is, one that ended is Done with its flags off, one that was refused leaves an empty map
-abbrev pub map_of : HeaderMap → Reading → Answer → HeaderMap
-map_of m r More = map_at m.phase r.found.awaits m.quirks m r
-map_of m r Blank = map_at Done false false m r
-map_of m r Input = map_at Done false false m r
-map_of m r (Refused e) = empty (lay m.table r.found.fields) m.limit m.room false false Done
+abbrev pub map_of : HeaderMap → Reading → Result Answer Refusal → HeaderMap
+map_of m r (Ok More) = map_at m.phase r.found.awaits m.quirks m r
+map_of m r (Ok Blank) = map_at Done false false m r
+map_of m r (Ok Input) = map_at Done false false m r
+map_of m r (Err e) = empty (lay m.table r.found.fields) m.limit m.room false false Done
 
 -- a refusal that leaves all
 abbrev pub leaves_fed : HeaderMap → List ℕ → List ℕ → Refusal → Given Fed
-leaves_fed m b s e = record { result = record { map = m; taken = 0; answer = Refused e }; block = b; store = s }
+leaves_fed m b s e = record { result = record { map = m; taken = 0; answer = Err e }; block = b; store = s }
 
 -- what a reading that went on to r gives: "the block holds the octets taken, the store what their folds wrote, the rest is untouched"
 abbrev pub gives : HeaderMap → List ℕ → List ℕ → Reading → Given Fed
@@ -70,25 +68,25 @@ unfoldable pub finishing : HeaderMap → List ℕ → List ℕ → Given Fed
 finishing m b s = unless (checked_reading m b s) (leaves_fed m b s) (finished_from m b s)
 
 -- a map that a call made or left, with loans that it cannot change
-abbrev pub makes : List ℕ → List ℕ → HeaderMap → Checked → Given Made
+abbrev pub makes : List ℕ → List ℕ → HeaderMap → Result ⊤ Refusal → Given Made
 makes b s m a = record { result = record { map = m; answer = a }; block = b; store = s }
 
 -- clear: 3, 2; "Begin gives one that is Reading, clear one that is Done."
 unfoldable pub clearing : HeaderMap → List ℕ → List ℕ → Given Made
 clearing m b s =
-    unless (checked true m (length b) (length s)) (λ e. makes b s m (Refuses e))
-    (makes b s (empty m.table m.limit m.room false false Done) Fine)
+    unless (checked true m (length b) (length s)) (λ e. makes b s m (Err e))
+    (makes b s (empty m.table m.limit m.room false false Done) (Ok tt))
 
 -- "Begin and a walker's start check 1, 2."
-abbrev pub first_rooms : Bool → Bool → Checked
-first_rooms false long = Refuses (refusal 1)
-first_rooms true false = Refuses (refusal 2)
-first_rooms true true = Fine
+abbrev pub first_rooms : Bool → Bool → Result ⊤ Refusal
+first_rooms false long = Err (refusal 1)
+first_rooms true false = Err (refusal 2)
+first_rooms true true = Ok tt
 
-unfoldable pub checked_rooms : ℕ → ℕ → ℕ → ℕ → Checked
+unfoldable pub checked_rooms : ℕ → ℕ → ℕ → ℕ → Result ⊤ Refusal
 checked_rooms limit room b s = first_rooms (good_rooms limit room) (leb limit b && leb room s)
 
 unfoldable pub beginning : HeaderMap → ℕ → ℕ → Bool → Bool → List ℕ → List ℕ → Given Made
 beginning m limit room awaits quirks b s =
-    unless (checked_rooms limit room (length b) (length s)) (λ e. makes b s m (Refuses e))
-    (makes b s (empty m.table limit room awaits quirks Open) Fine)
+    unless (checked_rooms limit room (length b) (length s)) (λ e. makes b s m (Err e))
+    (makes b s (empty m.table limit room awaits quirks Open) (Ok tt))

@@ -1,15 +1,14 @@
 -- What an answer or the first checks make of a head, and where a change puts a field. Assumes nothing.
-use Rattle.std.specs.Prelude.{false, ℕ}
+use Rattle.leaves.specs.declared.refusals.Refusal.{Refusal}
+use Rattle.std.specs.Prelude.{false, ℕ, Err, Ok, Result, ⊤}
 use Rattle.maps.specs.Heads.{empty_head}
 use Rattle.maps.specs.declared.Phase.TheVariants.{Done}
-use Rattle.maps.specs.declared.Checked.{Checked}
-use Rattle.maps.specs.declared.Checked.TheVariants.{Fine, Refused as Refuses}
 use Rattle.maps.specs.declared.Field.{Field}
 use Rattle.maps.specs.declared.Head.{Head}
 use Rattle.folds.specs.declared.Change.{Change}
-use Rattle.folds.specs.declared.Change.TheVariants.{Nothing, Status as Headed, Put, Refused as Stops}
+use Rattle.folds.specs.declared.Change.TheVariants.{Nothing, Status as Headed, Put}
 use Rattle.line_reader.specs.declared.Answer.{Answer}
-use Rattle.line_reader.specs.declared.Answer.TheVariants.{More, Blank, Input, Refused}
+use Rattle.line_reader.specs.declared.Answer.TheVariants.{More, Blank, Input}
 use Rattle.reader.specs.declared.Spot.{Spot}
 
 abbrev pub done_head : Head → Head
@@ -28,19 +27,19 @@ done_head h =
       phase = Done;
     }
 
-abbrev pub head_after : Answer → Head → Head
-head_after More h = h
-head_after Blank h = done_head h
-head_after Input h = done_head h
-head_after (Refused e) h = empty_head h.limit h.room false false Done
+abbrev pub head_after : Result Answer Refusal → Head → Head
+head_after (Ok More) h = h
+head_after (Ok Blank) h = done_head h
+head_after (Ok Input) h = done_head h
+head_after (Err e) h = empty_head h.limit h.room false false Done
 
-abbrev pub head_when : Checked → Head → Head → Head
-head_when Fine new old = new
-head_when (Refuses e) new old = old
+abbrev pub head_when : Result ⊤ Refusal → Head → Head → Head
+head_when (Ok tt) new old = new
+head_when (Err e) new old = old
 
 -- the field that a change puts; else the last one, where it is
-abbrev pub spot_of : Change → ℕ → Field → Spot
-spot_of Nothing slot last = record { slot = slot; field = last }
-spot_of (Headed p) slot last = record { slot = slot; field = last }
-spot_of (Put to x mark) slot last = record { slot = to; field = x }
-spot_of (Stops e) slot last = record { slot = slot; field = last }
+abbrev pub spot_of : Result Change Refusal → ℕ → Field → Spot
+spot_of (Ok Nothing) slot last = record { slot = slot; field = last }
+spot_of (Ok (Headed p)) slot last = record { slot = slot; field = last }
+spot_of (Ok (Put to x mark)) slot last = record { slot = to; field = x }
+spot_of (Err e) slot last = record { slot = slot; field = last }

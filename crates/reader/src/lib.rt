@@ -11,20 +11,20 @@ ghost use Rattle.reader.specs.Calls.{checked_rooms, fed_from, finished_from, fee
 use folds::Change;
 use leaves::refusals::Refusal;
 use line_reader::Answer;
-use maps::{Checked, Field, Head, HeaderMap, Phase, Status};
+use maps::{Field, Head, HeaderMap, Phase};
 
 #[derive(Clone, Copy)]
 pub struct Fed {
     pub map: HeaderMap,
     pub taken: usize,
-    pub answer: Answer,
+    pub answer: Result<Answer, Refusal>,
 }
 
 // A map that was made or cleared, or left as it was.
 #[derive(Clone, Copy)]
 pub struct Made {
     pub map: HeaderMap,
-    pub answer: Checked,
+    pub answer: Result<(), Refusal>,
 }
 
 // A field, and its number in the table.
@@ -45,7 +45,7 @@ pub fn empty_head(limit: usize, room: usize, awaits: bool, quirks: bool, phase: 
         line: 0,
         mark: 0,
         fields: 0,
-        status: Status::Absent,
+        status: None,
         awaits,
         quirks,
         edited: false,
@@ -54,34 +54,34 @@ pub fn empty_head(limit: usize, room: usize, awaits: bool, quirks: bool, phase: 
 }
 
 // What a reading that stands at a head leaves of it with an answer.
-pub fn head_after(answer: Answer, h: Head) -> Head
+pub fn head_after(answer: Result<Answer, Refusal>, h: Head) -> Head
     ensures { result ≡ head_after answer h }
 {
     match answer {
-        Answer::More => h,
-        Answer::Blank => Head {
+        Ok(Answer::More) => h,
+        Ok(Answer::Blank) => Head {
             awaits: false,
             quirks: false,
             phase: Phase::Done,
             ..h
         },
-        Answer::Input => Head {
+        Ok(Answer::Input) => Head {
             awaits: false,
             quirks: false,
             phase: Phase::Done,
             ..h
         },
-        Answer::Refused(e) => empty_head(h.limit, h.room, false, false, Phase::Done),
+        Err(e) => empty_head(h.limit, h.room, false, false, Phase::Done),
     }
 }
 
 // The new head where the checks are fine, else the old one.
-fn head_when(checked: Checked, new: Head, old: Head) -> Head
+fn head_when(checked: Result<(), Refusal>, new: Head, old: Head) -> Head
     ensures { result ≡ head_when checked new old }
 {
     match checked {
-        Checked::Fine => new,
-        Checked::Refused(e) => old,
+        Ok(()) => new,
+        Err(e) => old,
     }
 }
 
@@ -130,14 +130,14 @@ fn map_under(table: [Field; 256], h: Head) -> HeaderMap
 
 // The field that a change puts, and where; a change that puts none leaves the last field where it is. A loop over lines does better to
 // match on the change.
-fn spot_of(change: Change, slot: usize, last: Field) -> Spot
+fn spot_of(change: Result<Change, Refusal>, slot: usize, last: Field) -> Spot
     ensures { result ≡ spot_of change slot last }
 {
     match change {
-        Change::Nothing => Spot { slot, field: last },
-        Change::Status(p) => Spot { slot, field: last },
-        Change::Put(to, x, mark) => Spot { slot: to, field: x },
-        Change::Refused(e) => Spot { slot, field: last },
+        Ok(Change::Nothing) => Spot { slot, field: last },
+        Ok(Change::Status(p)) => Spot { slot, field: last },
+        Ok(Change::Put(to, x, mark)) => Spot { slot: to, field: x },
+        Err(e) => Spot { slot, field: last },
     }
 }
 
@@ -151,7 +151,7 @@ fn feed_lines(m: HeaderMap, block: &mut [u8], store: &mut [u8], piece: &[u8]) ->
     let mut h = head_of(m);
     let mut left = h;
     let mut at = 0;
-    let mut answer = Answer::More;
+    let mut answer = Ok(Answer::More);
     let mut going = true;
     while going {
         let slot = line_reader::last_of(h.fields);
@@ -164,12 +164,12 @@ fn feed_lines(m: HeaderMap, block: &mut [u8], store: &mut [u8], piece: &[u8]) ->
         going = handled.going;
         left = head_after(answer, h);
         match change {
-            Change::Nothing => {}
-            Change::Status(p) => {}
-            Change::Put(to, x, mark) => {
+            Ok(Change::Nothing) => {}
+            Ok(Change::Status(p)) => {}
+            Ok(Change::Put(to, x, mark)) => {
                 t[to] = x;
             }
-            Change::Refused(e) => {}
+            Err(e) => {}
         }
     }
     let map = map_under(t, left);
@@ -187,11 +187,11 @@ pub fn feed(m: HeaderMap, block: &mut [u8], store: &mut [u8], piece: &[u8]) -> F
     let phase = m.phase;
     let ready = maps::is_reading(phase);
     match maps::check(m, ready, block.len(), store.len()) {
-        Checked::Fine => feed_lines(m, block, store, piece),
-        Checked::Refused(e) => Fed {
+        Ok(()) => feed_lines(m, block, store, piece),
+        Err(e) => Fed {
             map: m,
             taken: 0,
-            answer: Answer::Refused(e),
+            answer: Err(e),
         },
     }
 }
@@ -229,11 +229,11 @@ pub fn finish(m: HeaderMap, block: &[u8], store: &mut [u8]) -> Fed
     let phase = m.phase;
     let on = maps::is_reading(phase);
     match maps::check(m, on, block.len(), store.len()) {
-        Checked::Fine => finish_line(m, block, store),
-        Checked::Refused(e) => Fed {
+        Ok(()) => finish_line(m, block, store),
+        Err(e) => Fed {
             map: m,
             taken: 0,
-            answer: Answer::Refused(e),
+            answer: Err(e),
         },
     }
 }
@@ -255,19 +255,19 @@ pub fn clear(m: HeaderMap, block: &[u8], store: &[u8]) -> Made
 }
 
 // What begin checks: 1, 2.
-pub fn check_rooms(limit: usize, room: usize, block: usize, store: usize) -> Checked
+pub fn check_rooms(limit: usize, room: usize, block: usize, store: usize) -> Result<(), Refusal>
     ensures { result ≡ checked_rooms limit room block store }
 {
     if maps::good_rooms(limit, room) {
         if limit <= block {
             if room <= store {
-                return Checked::Fine;
+                return Ok(());
             }
-            return Checked::Refused(Refusal::ShortLoan);
+            return Err(Refusal::ShortLoan);
         }
-        return Checked::Refused(Refusal::ShortLoan);
+        return Err(Refusal::ShortLoan);
     }
-    Checked::Refused(Refusal::BadRooms)
+    Err(Refusal::BadRooms)
 }
 
 // Makes a map that is used again an empty one that is Reading, over two loans; refused, it is left as it was.

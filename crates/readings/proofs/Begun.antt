@@ -1,4 +1,5 @@
 -- A map that begin made, and a feed of it. Assumes nothing.
+use Rattle.std.specs.Prelude.{Ok}
 use mathlib.Core.Path.{◌≡◌, refl, ◌∙◌, ap}
 use mathlib.Core.Bool.{Bool, true, ◌&&◌}
 use mathlib.Core.List.{List}
@@ -11,7 +12,6 @@ use Rattle.maps.specs.Good.{good_rooms, checked_reading}
 use Rattle.maps.specs.Maps.{empty, Given}
 use Rattle.maps.specs.declared.Phase.TheVariants.{Reading as Open}
 use Rattle.maps.specs.declared.HeaderMap.{HeaderMap}
-use Rattle.maps.specs.declared.Checked.TheVariants.{Fine}
 use Rattle.maps.proofs.GoodLaws.{checked_fine, goes_on}
 use Rattle.line_reader.specs.Reading.{Rules, fed, begun}
 use Rattle.reader.specs.Calls.{gives, feeding, beginning, checked_rooms}
@@ -21,7 +21,7 @@ use Rattle.readings.proofs.Kept.{rooms_passed, good_empty}
 use Rattle.readings.proofs.Cut.{fed_goes}
 
 -- rooms and loans that begin takes
-module _ (limit room : ℕ) (b s : List ℕ) (fine : Fine ≡ checked_rooms limit room (length b) (length s)) where
+module _ (limit room : ℕ) (b s : List ℕ) (fine : Ok tt ≡ checked_rooms limit room (length b) (length s)) where
   pub both_fine : (good_rooms limit room ≡ true) × ((leb limit (length b) && leb room (length s)) ≡ true)
   both_fine = rooms_passed limit room (length b) (length s) fine
 
@@ -35,7 +35,7 @@ module _ (limit room : ℕ) (b s : List ℕ) (fine : Fine ≡ checked_rooms limi
     abbrev pub begun_rules : Rules
     begun_rules = record { limit = limit; room = room; quirks = quirks }
 
-    pub begins_fine : Fine ≡ checked_reading begins b s
+    pub begins_fine : Ok tt ≡ checked_reading begins b s
     begins_fine = checked_fine true begins (length b) (length s) (good_empty limit room both_fine.0 m.table status quirks Open) both_fine.1 refl
 
     pub begun_map : (beginning m limit room status quirks b s).result.map ≡ begins

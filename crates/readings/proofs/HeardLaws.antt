@@ -1,8 +1,8 @@
 -- Laws of rule 4 in octets: what each kind of line says, and how a line of a text is listened to. Assumes nothing.
+use Rattle.std.specs.Prelude.{Option, Some}
 use mathlib.Core.Path.{◌≡◌, refl, sym, ◌∙◌, ap}
 use mathlib.Core.Bool.{Bool, true, false, ◌&&◌, false≢true}
 use mathlib.Core.List.{List, [], ◌∷◌, ◌++◌}
-use mathlib.Core.Option.{Option, some}
 use Prim.Native.Nat.{ℕ, suc, ◌+◌, ◌-◌, ◌≤◌, ◌<◌}
 use native.Mathlib.Omega.{arith}
 use borrow.Author.Tests.{lt-ltb, le-ltb, ltb-true, ltb-false, ne_eqb}
@@ -54,7 +54,7 @@ fields_colon k w e =
     rw (before_append 58 k w e, lt-ltb (length k) (length (k ++ 58 ∷ w)) (omega (arith, length-append k (58 ∷ w))), take_at k (58 ∷ w) (length k) refl, drop-append-add k (58 ∷ w) 1)
 
 -- the four kinds of line: the status, a leading continuation, a fold, a field
-pub heard_status : (l : List ℕ) (s : Said) → heard l (record { awaits = true; said = s }) ≡ hearing (some (trimmed l)) s.pairs
+pub heard_status : (l : List ℕ) (s : Said) → heard l (record { awaits = true; said = s }) ≡ hearing (Some (trimmed l)) s.pairs
 unfolding heard when◌then◌else◌
 heard_status l s = refl
 

@@ -1,4 +1,6 @@
 -- The statements of `Hears` hold. Assumes nothing.
+use Rattle.leaves.specs.declared.refusals.Refusal.{Refusal}
+use Rattle.std.specs.Prelude.{Ok, Result}
 use mathlib.Core.Path.{◌≡◌, refl, sym, ◌∙◌, ap, subst}
 use mathlib.Core.Bool.{Bool, true, false}
 use mathlib.Core.List.{List, ◌++◌, map}
@@ -13,7 +15,6 @@ use Rattle.maps.specs.Maps.{Given}
 use Rattle.maps.specs.Said.{Said, pair_at, status_at, saying}
 use Rattle.maps.specs.declared.Phase.TheVariants.{Done}
 use Rattle.maps.specs.declared.HeaderMap.{HeaderMap}
-use Rattle.maps.specs.declared.Checked.TheVariants.{Fine}
 use Rattle.maps.proofs.TextLaws.{pairs_front, status_front}
 use Rattle.maps.proofs.GoodLaws.{ready_of}
 use Rattle.maps.proofs.SaidLaws.{said_is, said_same}
@@ -34,7 +35,7 @@ use Rattle.readings.proofs.ListeningLaws.{same_listening, Listens, fed_listens, 
 use Rattle.readings.proofs.MapSays.{map_says}
 use Rattle.readings.proofs.Begun.{roomy, begins, begun_rules, begins_fine, fed_begun_lem}
 
-module _ (m : HeaderMap) (b s : List ℕ) (fine : Fine ≡ checked_reading m b s) where
+module _ (m : HeaderMap) (b s : List ℕ) (fine : Ok tt ≡ checked_reading m b s) where
   abbrev R : Rules
   R = rules_of m
 
@@ -68,10 +69,10 @@ module _ (m : HeaderMap) (b s : List ℕ) (fine : Fine ≡ checked_reading m b s
 
   -- what the call gives by the reading q that it reached
   module _ (q : Reading) (later : Later R r q) where
-    on_says : saying (map_of m q More) (lay b q.block) (lay s q.found.store) ≡ said q
+    on_says : saying (map_of m q (Ok More)) (lay b q.block) (lay s q.found.store) ≡ said q
     on_says = map_says m.phase q.found.awaits m.quirks m b s q later.sound.fields later.sound.status
 
-    done_says : saying (map_of m q Blank) (lay b q.block) (lay s q.found.store) ≡ said q
+    done_says : saying (map_of m q (Ok Blank)) (lay b q.block) (lay s q.found.store) ≡ said q
     done_says = map_says Done false false m b s q later.sound.fields later.sound.status
 
     gives_told : (l : Listening) → Listens l q → Told m.count l (gives m b s q)
@@ -84,14 +85,14 @@ module _ (m : HeaderMap) (b s : List ℕ) (fine : Fine ≡ checked_reading m b s
         }
       where
         choose : (t : Bool) → q.answer ≡ answered t → says_then (gives m b s q) ≡ said q
-        choose false e = ap (λ (a : Answer). saying (map_of m q a) (lay b q.block) (lay s q.found.store)) e ∙ on_says
-        choose true e = ap (λ (a : Answer). saying (map_of m q a) (lay b q.block) (lay s q.found.store)) e ∙ done_says
+        choose false e = ap (λ (a : Result Answer Refusal). saying (map_of m q a) (lay b q.block) (lay s q.found.store)) e ∙ on_says
+        choose true e = ap (λ (a : Result Answer Refusal). saying (map_of m q a) (lay b q.block) (lay s q.found.store)) e ∙ done_says
 
-        on : q.answer ≡ More → so_far (map_of m q q.answer) (lay b q.block) (lay s q.found.store) ≡ listening_of q
+        on : q.answer ≡ Ok More → so_far (map_of m q q.answer) (lay b q.block) (lay s q.found.store) ≡ listening_of q
         on e =
-            ap (λ (a : Answer). so_far (map_of m q a) (lay b q.block) (lay s q.found.store)) e ∙
+            ap (λ (a : Result Answer Refusal). so_far (map_of m q a) (lay b q.block) (lay s q.found.store)) e ∙
             same_listening _ _ _ _ _ _ false refl (ap (drop q.line) (lay_take b q.block)) (ap (λ (x : Said). record { awaits = q.found.awaits; said = x }) on_says) ∙
-            ap (λ (a : Answer). record { count = length q.block; line = drop q.line q.block; hearing = hearing_of q; ended = at_blank a }) (sym e)
+            ap (λ (a : Result Answer Refusal). record { count = length q.block; line = drop q.line q.block; hearing = hearing_of q; ended = at_blank a }) (sym e)
 
   fed_told : (p : List ℕ) → refused (feeding m b s p).result.answer ≡ false → Told m.count (listening m.quirks (so_far m b s) p) (feeding m b s p)
   fed_told p f =
@@ -99,18 +100,18 @@ module _ (m : HeaderMap) (b s : List ℕ) (fine : Fine ≡ checked_reading m b s
       let w : refused (fed R r p).answer ≡ false = sym (ap (λ (x : Given Fed). refused x.result.answer) g) ∙ f in
       rw (g, so_far_lem) (gives_told (fed R r p) (fed_later R r p sound) (listening m.quirks (listening_of r) p) (fed_listens R r p sound refl w))
 
-  finished_told : (finishing m b s).result.answer ≡ Input → says_then (finishing m b s) ≡ (last_heard (so_far m b s).line (so_far m b s).hearing).said
+  finished_told : (finishing m b s).result.answer ≡ Ok Input → says_then (finishing m b s) ≡ (last_heard (so_far m b s).line (so_far m b s).hearing).said
   finished_told f =
       let g = finish_goes m b s fine in
       let q = finished R r in
-      let e : q.answer ≡ Input = sym (ap (λ (x : Given Fed). x.result.answer) g) ∙ f in
+      let e : q.answer ≡ Ok Input = sym (ap (λ (x : Given Fed). x.result.answer) g) ∙ f in
       ap says_then g ∙
-      ap (λ (a : Answer). saying (map_of m q a) (lay b q.block) (lay s q.found.store)) e ∙
+      ap (λ (a : Result Answer Refusal). saying (map_of m q a) (lay b q.block) (lay s q.found.store)) e ∙
       done_says q (finished_later R r sound) ∙
       ap (λ (h : Hearing). h.said) (finished_hears R r sound refl (ap refused e)) ∙
       ap (λ (z : Listening). (last_heard z.line z.hearing).said) (sym so_far_lem)
 
-begun_told : (m : HeaderMap) (limit room : ℕ) (status quirks : Bool) (b s p : List ℕ) (fine : Fine ≡ checked_rooms limit room (length b) (length s))
+begun_told : (m : HeaderMap) (limit room : ℕ) (status quirks : Bool) (b s p : List ℕ) (fine : Ok tt ≡ checked_rooms limit room (length b) (length s))
     → let l = listening quirks (silent status) p in
     l.count ≤ limit → length l.hearing.said.pairs ≤ 256 → Told 0 l (feeding (beginning m limit room status quirks b s).result.map b s p)
 begun_told m limit room status quirks b s p fine c few =

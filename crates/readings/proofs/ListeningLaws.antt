@@ -1,4 +1,6 @@
 -- A reading that is not refused says what its octets say. Assumes nothing.
+use Rattle.leaves.specs.declared.refusals.Refusal.{Refusal}
+use Rattle.std.specs.Prelude.{Err, Ok, Result}
 use mathlib.Core.Path.{◌≡◌, refl, sym, ◌∙◌, ap, subst}
 use mathlib.Core.Bool.{Bool, true, false, not, false≢true}
 use mathlib.Core.List.{List, [], ◌∷◌, ◌++◌, map, append-nil}
@@ -14,10 +16,10 @@ use Rattle.maps.specs.Said.{pair_at, status_at}
 use Rattle.maps.proofs.TextLaws.{pairs_front, status_front}
 use Rattle.maps.proofs.SaidLaws.{said_same}
 use Rattle.folds.specs.declared.Change.{Change}
-use Rattle.folds.specs.declared.Change.TheVariants.{Nothing, Status as Headed, Put, Refused as Stops}
+use Rattle.folds.specs.declared.Change.TheVariants.{Nothing, Status as Headed, Put}
 use Rattle.line_reader.specs.Reading.{Rules, Reading, begun, goes, lined, ruled, closed, put, step, fed, finished}
 use Rattle.line_reader.specs.declared.Answer.{Answer}
-use Rattle.line_reader.specs.declared.Answer.TheVariants.{More, Blank, Input, Refused}
+use Rattle.line_reader.specs.declared.Answer.TheVariants.{More, Blank, Input}
 use Rattle.maps.proofs.FitLaws.{all_mono, status_mono}
 use Rattle.line_reader.proofs.OctetSteps.{still}
 use Rattle.line_reader.proofs.Steps.{lined_block}
@@ -35,7 +37,7 @@ same_listening c c' l l' h h' e p q s = rw (p, q, s)
 
 -- an octet goes into the block
 abbrev with : Reading → ℕ → Reading
-with r o = record { block = r.block ++ o ∷ []; line = r.line; found = r.found; answer = More }
+with r o = record { block = r.block ++ o ∷ []; line = r.line; found = r.found; answer = Ok More }
 
 -- a reading that goes on
 abbrev going : Reading → Listening
@@ -43,22 +45,22 @@ going r = record { count = length r.block; line = drop r.line r.block; hearing =
 
 module _ (R : Rules) where
   -- a reading with this answer tells what was listened to; while count and fields keep within their limits it is refused by 6 alone
-  abbrev Told : Listening → Reading → Answer → Type 0
-  Told l z More = listening_of z ≡ l
-  Told l z Blank = listening_of z ≡ l
-  Told l z Input = ⊥
-  Told l z (Refused e) = l.count ≤ R.limit → length l.hearing.said.pairs ≤ 256 → number e ≡ 6
+  abbrev Told : Listening → Reading → Result Answer Refusal → Type 0
+  Told l z (Ok More) = listening_of z ≡ l
+  Told l z (Ok Blank) = listening_of z ≡ l
+  Told l z (Ok Input) = ⊥
+  Told l z (Err e) = l.count ≤ R.limit → length l.hearing.said.pairs ≤ 256 → number e ≡ 6
 
   record Tells (l : Listening) (z : Reading) : Type 0 where
     is : Told l z z.answer
 
-  lined_tells : (r : Reading) (new : List ℕ) (c : Change) → HeardC r.block r.line r.found new c
-      → Tells (between (length r.block) (heard (drop r.line r.block) (hearing_of r))) (lined r More new c)
+  lined_tells : (r : Reading) (new : List ℕ) (c : Result Change Refusal) → HeardC r.block r.line r.found new c
+      → Tells (between (length r.block) (heard (drop r.line r.block) (hearing_of r))) (lined r (Ok More) new c)
   unfolding said
-  lined_tells r new Nothing h = record { is = same_listening _ _ _ _ _ _ false refl (drop-length r.block) h }
-  lined_tells r new (Headed p) h = record { is = same_listening _ _ _ _ _ _ false refl (drop-length r.block) h }
-  lined_tells r new (Put slot x to) h = record { is = same_listening _ _ _ _ _ _ false refl (drop-length r.block) h }
-  lined_tells r new (Stops e) h = record { is = λ _ few. h few }
+  lined_tells r new (Ok Nothing) h = record { is = same_listening _ _ _ _ _ _ false refl (drop-length r.block) h }
+  lined_tells r new (Ok (Headed p)) h = record { is = same_listening _ _ _ _ _ _ false refl (drop-length r.block) h }
+  lined_tells r new (Ok (Put slot x to)) h = record { is = same_listening _ _ _ _ _ _ false refl (drop-length r.block) h }
+  lined_tells r new (Err e) h = record { is = λ _ few. h few }
 
   closed_tells : (r : Reading) → Sound R r → Tells (line_heard R.quirks (length r.block) (drop r.line r.block) (hearing_of r)) (closed R r)
   unfolding closed said
@@ -66,9 +68,9 @@ module _ (R : Rules) where
       let l : List ℕ = drop r.line r.block in
       let n : ℕ = length r.block in
       by_if (Tells (line_heard R.quirks n l (hearing_of r))) _ _ _
-      (λ e. subst (λ (z : Listening). Tells z (record { block = r.block; line = n; found = r.found; answer = Blank })) (sym (line_over R.quirks n l (hearing_of r) e))
+      (λ e. subst (λ (z : Listening). Tells z (record { block = r.block; line = n; found = r.found; answer = Ok Blank })) (sym (line_over R.quirks n l (hearing_of r) e))
       (record { is = same_listening _ _ _ _ _ _ true refl (drop-length r.block) refl }))
-      (λ e. subst (λ (z : Listening). Tells z (lined r More (ruled R r).new (ruled R r).change)) (sym (line_heard_lem R.quirks n l (hearing_of r) e))
+      (λ e. subst (λ (z : Listening). Tells z (lined r (Ok More) (ruled R r).new (ruled R r).change)) (sym (line_heard_lem R.quirks n l (hearing_of r) e))
       (lined_tells r (ruled R r).new (ruled R r).change (ruled_hears R r s).is))
 
   module _ (r : Reading) (o : ℕ) (s : Sound R r) where
@@ -116,11 +118,11 @@ module _ (R : Rules) where
               sym (octet_on q n l (hearing_of r) o (rw (← cr_line q r.block r.line) e));
         })
 
-    step_going : r.answer ≡ More → Tells (listened R.quirks (going r) o) (step R r o)
+    step_going : r.answer ≡ Ok More → Tells (listened R.quirks (going r) o) (step R r o)
     unfolding step
     step_going e =
         by_if (Tells (listened R.quirks (going r) o)) _ _ _
-        (λ d. absurd (false≢true (sym (ap (λ (a : Answer). not (goes a)) e) ∙ d)))
+        (λ d. absurd (false≢true (sym (ap (λ (a : Result Answer Refusal). not (goes a)) e) ∙ d)))
         (λ _. by_if (Tells (listened R.quirks (going r) o)) _ _ _
         (λ d. record {
           is = λ c _. absurd (omega (arith, c, listened_count R.quirks (going r) o refl, eqb-true (length r.block) R.limit d));
@@ -136,15 +138,15 @@ module _ (R : Rules) where
   step_tells : (r : Reading) (l : Listening) (o : ℕ) → Sound R r → Tells l r → Tells (listened R.quirks l o) (step R r o)
   step_tells r l o s t = choose r.answer refl t.is
     where
-      choose : (a : Answer) → r.answer ≡ a → Told l r a → Tells (listened R.quirks l o) (step R r o)
-      choose More e h =
-          let g : going r ≡ l = ap (λ (a : Answer). record { count = length r.block; line = drop r.line r.block; hearing = hearing_of r; ended = at_blank a }) (sym e) ∙ h in
+      choose : (a : Result Answer Refusal) → r.answer ≡ a → Told l r a → Tells (listened R.quirks l o) (step R r o)
+      choose (Ok More) e h =
+          let g : going r ≡ l = ap (λ (a : Result Answer Refusal). record { count = length r.block; line = drop r.line r.block; hearing = hearing_of r; ended = at_blank a }) (sym e) ∙ h in
           subst (λ (z : Listening). Tells (listened R.quirks z o) (step R r o)) g (step_going r o s e)
-      choose Blank e h =
+      choose (Ok Blank) e h =
           let d : l.ended ≡ true = sym (ap (λ (z : Listening). z.ended) h) ∙ ap at_blank e in
           rw (step_still r o (ap goes e), ended_stays R.quirks l o d) t
-      choose Input e h = absurd h
-      choose (Refused x) e h =
+      choose (Ok Input) e h = absurd h
+      choose (Err x) e h =
           let k = listened_keeps R.quirks l o in
           rw (step_still r o (ap goes e))
           (record { is = subst (Told (listened R.quirks l o) r) (sym e) (λ c few. h (omega (arith, c, k.0)) (omega (arith, few, k.1))) })
@@ -162,33 +164,33 @@ pub record Listens (l : Listening) (r : Reading) : Type 0 where
 listens_by : (R : Rules) (l : Listening) (r : Reading) → Tells R l r → refused r.answer ≡ false → Listens l r
 listens_by R l r t f = choose r.answer refl t.is
   where
-    by : (a : Answer) → r.answer ≡ a → a ≡ answered (at_blank a) → listening_of r ≡ l → Listens l r
+    by : (a : Result Answer Refusal) → r.answer ≡ a → a ≡ answered (at_blank a) → listening_of r ≡ l → Listens l r
     by a e g h = record { answer = e ∙ g ∙ ap answered (ap at_blank (sym e) ∙ ap (λ (z : Listening). z.ended) h); told = h }
 
-    choose : (a : Answer) → r.answer ≡ a → Told R l r a → Listens l r
-    choose More e h = by More e refl h
-    choose Blank e h = by Blank e refl h
-    choose Input e h = absurd h
-    choose (Refused x) e h = absurd (false≢true (sym f ∙ ap refused e))
+    choose : (a : Result Answer Refusal) → r.answer ≡ a → Told R l r a → Listens l r
+    choose (Ok More) e h = by (Ok More) e refl h
+    choose (Ok Blank) e h = by (Ok Blank) e refl h
+    choose (Ok Input) e h = absurd h
+    choose (Err x) e h = absurd (false≢true (sym f ∙ ap refused e))
 
 module _ (R : Rules) where
   -- octets fed to a reading that goes on, and not refused, are listened to
-  pub fed_listens : (r : Reading) (os : List ℕ) → Sound R r → r.answer ≡ More → refused (fed R r os).answer ≡ false
+  pub fed_listens : (r : Reading) (os : List ℕ) → Sound R r → r.answer ≡ Ok More → refused (fed R r os).answer ≡ false
       → Listens (listening R.quirks (listening_of r) os) (fed R r os)
   fed_listens r os s e f =
       listens_by R (listening R.quirks (listening_of r) os) (fed R r os)
       (fed_tells R r (listening_of r) os s (record { is = subst (Told R (listening_of r) r) (sym e) refl })) f
 
   -- and at the end of input the leftover line
-  pub finished_hears : (r : Reading) → Sound R r → r.answer ≡ More → refused (finished R r).answer ≡ false
+  pub finished_hears : (r : Reading) → Sound R r → r.answer ≡ Ok More → refused (finished R r).answer ≡ false
       → hearing_of (finished R r) ≡ last_heard (drop r.line r.block) (hearing_of r)
   unfolding finished said
   finished_hears r s e =
       let l : List ℕ = drop r.line r.block in
       let P : Reading → Type 0 = λ (z : Reading). refused z.answer ≡ false → hearing_of z ≡ last_heard l (hearing_of r) in
-      by_if P _ _ _ (λ d. absurd (false≢true (sym (ap (λ (a : Answer). not (goes a)) e) ∙ d)))
+      by_if P _ _ _ (λ d. absurd (false≢true (sym (ap (λ (a : Result Answer Refusal). not (goes a)) e) ∙ d)))
       (λ _. by_if P _ _ _
-      (λ d f. line_hears R r s Input f ∙ sym (last_heard_lem l (hearing_of r) (omega (arith, length-drop r.line r.block, ltb-true r.line (length r.block) d))))
+      (λ d f. line_hears R r s (Ok Input) f ∙ sym (last_heard_lem l (hearing_of r) (omega (arith, length-drop r.line r.block, ltb-true r.line (length r.block) d))))
       (λ d f.
       let z : length r.block ≤ r.line = ltb-false r.line (length r.block) d in
       sym (ap (λ (t : List ℕ). last_heard t (hearing_of r)) (drop_of_length-le r.block z))))
@@ -212,16 +214,16 @@ module _ (R : Rules) where
       let t : Tells R l r = fed_tells R (begun status) (silent status) os (begun_sound R status) (record { is = said_begun status }) in
       listens_by R l r t (choose r.answer refl t.is)
     where
-      choose : (a : Answer) → (fed R (begun status) os).answer ≡ a → Told R (listening R.quirks (silent status) os) (fed R (begun status) os) a
+      choose : (a : Result Answer Refusal) → (fed R (begun status) os).answer ≡ a → Told R (listening R.quirks (silent status) os) (fed R (begun status) os) a
           → refused (fed R (begun status) os).answer ≡ false
-      choose More e h = ap refused e
-      choose Blank e h = ap refused e
-      choose Input e h = ap refused e
-      choose (Refused x) e h = absurd ((fed_thrifty R rooms (begun status) os (thrifty_begun status)).not_six (ap told e ∙ h c few))
+      choose (Ok More) e h = ap refused e
+      choose (Ok Blank) e h = ap refused e
+      choose (Ok Input) e h = ap refused e
+      choose (Err x) e h = absurd ((fed_thrifty R rooms (begun status) os (thrifty_begun status)).not_six (ap told e ∙ h c few))
 
   closed_block : (r : Reading) → (closed R r).block ≡ r.block
   unfolding closed
-  closed_block r = by_if (λ (z : Reading). z.block ≡ r.block) _ _ _ (λ e. refl) (λ e. lined_block r More (ruled R r).new (ruled R r).change)
+  closed_block r = by_if (λ (z : Reading). z.block ≡ r.block) _ _ _ (λ e. refl) (λ e. lined_block r (Ok More) (ruled R r).new (ruled R r).change)
 
   -- an octet is taken, or nothing from it on
   data Takes (r : Reading) (o : ℕ) (z : Reading) : Type 0 where

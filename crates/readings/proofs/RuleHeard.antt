@@ -1,8 +1,9 @@
 -- What a line does to places says what the line is heard to say. Assumes nothing.
+use Rattle.leaves.specs.declared.refusals.Refusal.{Refusal}
+use Rattle.std.specs.Prelude.{Err, Ok, Option, Result, Some}
 use mathlib.Core.Path.{◌≡◌, refl, sym, ◌∙◌, ap}
 use mathlib.Core.Bool.{true, false, false≢true}
 use mathlib.Core.List.{List, [], ◌∷◌, ◌++◌, map, map-append, append-nil}
-use mathlib.Core.Option.{some}
 use Prim.Native.Nat.{ℕ, suc, ◌+◌, ◌-◌, ◌≤◌, ◌<◌}
 use native.Mathlib.Omega.{arith}
 use borrow.Author.Tests.{eqb-true, eqb-false, ltb-false}
@@ -20,13 +21,12 @@ use Rattle.maps.specs.Good.{Fits, lies_in_block, lies_in_store, Fit, FitAll, Fit
 use Rattle.maps.specs.Said.{Pair, pair_at, status_at}
 use Rattle.maps.specs.declared.Field.{Field}
 use Rattle.maps.specs.declared.Place.{Place}
-use Rattle.maps.specs.declared.Status.{Status}
 use Rattle.maps.proofs.TextLaws.{at_front, pairs_front, status_front}
 use Rattle.maps.proofs.PartLaws.{none_between}
 use Rattle.maps.proofs.SaidLaws.{pair_same}
 use Rattle.folds.specs.Rule.{Ruling, plain, trimmed_at, continues, grown, regrown, folded, split, rule4}
 use Rattle.folds.specs.declared.Change.{Change}
-use Rattle.folds.specs.declared.Change.TheVariants.{Nothing, Status as Headed, Put, Refused as Stops}
+use Rattle.folds.specs.declared.Change.TheVariants.{Nothing, Status as Headed, Put}
 use Rattle.line_reader.specs.Reading.{Rules, Gathered, Reading, changed, lined, ruled}
 use Rattle.line_reader.specs.declared.Answer.{Answer}
 use Rattle.maps.proofs.FitLaws.{all_take, all_get}
@@ -60,7 +60,7 @@ module _ (b s new : List ℕ) where
   pairs_later : {xs : List Field} → FitAll (length b) (length s) xs → map (pair_at b (s ++ new)) xs ≡ map (pair_at b s) xs
   pairs_later {xs} h = ap (λ (c : List ℕ). map (pair_at c (s ++ new)) xs) (sym (append-nil b)) ∙ pairs_front b s [] new h
 
-  status_later : {t : Status} → FitStatus (length b) (length s) t → status_at b (s ++ new) t ≡ status_at b s t
+  status_later : {t : Option Place} → FitStatus (length b) (length s) t → status_at b (s ++ new) t ≡ status_at b s t
   status_later {t} h = ap (λ (c : List ℕ). status_at c (s ++ new) t) (sym (append-nil b)) ∙ status_front b s [] new h
 
 -- the line of the block b that begins at n, what the lines before it gave, and what is heard of it
@@ -72,11 +72,11 @@ module _ (b : List ℕ) (n : ℕ) (f : Gathered) where
   anew = heard line (tells b f)
 
   -- a change says what is heard; a line is refused by 6, or where a 257th field would be heard
-  abbrev pub HeardC : List ℕ → Change → Type 0
-  HeardC new Nothing = tells b (changed f new Nothing) ≡ anew
-  HeardC new (Headed p) = tells b (changed f new (Headed p)) ≡ anew
-  HeardC new (Put slot x to) = tells b (changed f new (Put slot x to)) ≡ anew
-  HeardC new (Stops e) = length anew.said.pairs ≤ 256 → number e ≡ 6
+  abbrev pub HeardC : List ℕ → Result Change Refusal → Type 0
+  HeardC new (Ok Nothing) = tells b (changed f new (Ok Nothing)) ≡ anew
+  HeardC new (Ok (Headed p)) = tells b (changed f new (Ok (Headed p))) ≡ anew
+  HeardC new (Ok (Put slot x to)) = tells b (changed f new (Ok (Put slot x to))) ≡ anew
+  HeardC new (Err e) = length anew.said.pairs ≤ 256 → number e ≡ 6
 
   pub record IsHeard (g : Ruling) : Type 0 where
     pub is : HeardC g.new g.change
@@ -84,7 +84,7 @@ module _ (b : List ℕ) (n : ℕ) (f : Gathered) where
   abbrev sayings : List Field → List Pair
   sayings xs = map (pair_at b f.store) xs
 
-  anew_head : f.awaits ≡ true → anew ≡ record { awaits = false; said = record { status = some (trimmed line); pairs = sayings f.fields } }
+  anew_head : f.awaits ≡ true → anew ≡ record { awaits = false; said = record { status = Some (trimmed line); pairs = sayings f.fields } }
   unfolding heard
   anew_head e = if_true _ _ e
 
@@ -99,31 +99,31 @@ module _ (b : List ℕ) (n : ℕ) (f : Gathered) where
   unfolding heard
   anew_split e c = if_false _ _ e ∙ if_false _ _ c
 
-  head_hears : f.awaits ≡ true → IsHeard (plain (Headed (trimmed_at n line)))
+  head_hears : f.awaits ≡ true → IsHeard (plain (Ok (Headed (trimmed_at n line))))
   head_hears e =
       record {
         is =
-            ap (λ (t : List ℕ). record { awaits = false; said = record { status = some t; pairs = sayings f.fields } }) (trimmed_in b line [] n (sym (append-nil line))) ∙
+            ap (λ (t : List ℕ). record { awaits = false; said = record { status = Some t; pairs = sayings f.fields } }) (trimmed_in b line [] n (sym (append-nil line))) ∙
             sym (anew_head e);
       }
 
   module _ (fits : FitAll (length b) (length f.store) f.fields) (heads : FitStatus (length b) (length f.store) f.status) where
     -- a field put behind some of the fields
     put_says : (slot : ℕ) (x : Field) (to : ℕ) (new : List ℕ) (p : Pair) → pair_at b (f.store ++ new) x ≡ p
-        → tells b (changed f new (Put slot x to)) ≡ with (sayings (take slot f.fields) ++ p ∷ [])
+        → tells b (changed f new (Ok (Put slot x to))) ≡ with (sayings (take slot f.fields) ++ p ∷ [])
     put_says slot x to new p e =
         rw
         (status_later b f.store new heads, map-append (pair_at b (f.store ++ new)) (take slot f.fields) (x ∷ []), pairs_later b f.store new (all_take slot fits), e)
 
     module _ (room : ℕ) where
       grown_hears : (slot : ℕ) (key : Place) (from : ℕ) (new : List ℕ)
-          → ((to : ℕ) → tells b (changed f new (Put slot (record { key = key; value = in_store from (length f.store + length new) }) to)) ≡ anew)
+          → ((to : ℕ) → tells b (changed f new (Ok (Put slot (record { key = key; value = in_store from (length f.store + length new) }) to))) ≡ anew)
           → IsHeard (grown room slot key from (length f.store) new)
       unfolding grown
       grown_hears slot key from new h = by_if IsHeard _ _ _ (λ e. record { is = h (length f.store + length new) }) (λ e. record { is = λ few. refl })
 
       -- the last value regrown
-      module _ (awaits : f.awaits ≡ false) (folds : continues line ≡ true) (some : 0 < length f.fields) where
+      module _ (awaits : f.awaits ≡ false) (folds : continues line ≡ true) (Some : 0 < length f.fields) where
         abbrev last : Field
         last = last_of f.fields
 
@@ -217,13 +217,13 @@ module _ (b : List ℕ) (n : ℕ) (f : Gathered) where
       unfolding rule4
       rule4_hears = by_if IsHeard _ _ _ head_hears (λ a. by_if IsHeard _ _ _ (folded_hears a) (split_hears a))
 
-lined_hears : (r : Reading) (a : Answer) (new : List ℕ) (c : Change) → HeardC r.block r.line r.found new c → refused (lined r a new c).answer ≡ false
+lined_hears : (r : Reading) (a : Result Answer Refusal) (new : List ℕ) (c : Result Change Refusal) → HeardC r.block r.line r.found new c → refused (lined r a new c).answer ≡ false
     → hearing_of (lined r a new c) ≡ heard (drop r.line r.block) (hearing_of r)
 unfolding said
-lined_hears r a new Nothing h e = h
-lined_hears r a new (Headed p) h e = h
-lined_hears r a new (Put slot x to) h e = h
-lined_hears r a new (Stops x) h e = absurd (false≢true (sym e))
+lined_hears r a new (Ok Nothing) h e = h
+lined_hears r a new (Ok (Headed p)) h e = h
+lined_hears r a new (Ok (Put slot x to)) h e = h
+lined_hears r a new (Err x) h e = absurd (false≢true (sym e))
 
 module _ (R : Rules) (r : Reading) (sound : Sound R r) where
   pub ruled_hears : IsHeard r.block r.line r.found (ruled R r)
@@ -231,6 +231,6 @@ module _ (R : Rules) (r : Reading) (sound : Sound R r) where
   ruled_hears = rule4_hears r.block r.line r.found sound.fields sound.status R.room
 
   -- a line that is not refused says what it is heard to say
-  pub line_hears : (a : Answer) → refused (lined r a (ruled R r).new (ruled R r).change).answer ≡ false
+  pub line_hears : (a : Result Answer Refusal) → refused (lined r a (ruled R r).new (ruled R r).change).answer ≡ false
       → hearing_of (lined r a (ruled R r).new (ruled R r).change) ≡ heard (drop r.line r.block) (hearing_of r)
   line_hears a e = lined_hears r a (ruled R r).new (ruled R r).change ruled_hears.is e

@@ -1,4 +1,5 @@
 -- What a reading leaves in the map and in the loans, whatever its answer. Assumes nothing.
+use Rattle.std.specs.Prelude.{Err, Ok, Result}
 use mathlib.Core.Path.{◌≡◌, refl, sym, ◌∙◌, ap}
 use mathlib.Core.Bool.{false, false≢true}
 use mathlib.Core.List.{List, [], ◌++◌, append_assoc, append-nil}
@@ -13,15 +14,14 @@ use Rattle.maps.specs.Good.{Ready, checked_reading}
 use Rattle.maps.specs.Maps.{empty}
 use Rattle.maps.specs.declared.Phase.TheVariants.{Done}
 use Rattle.maps.specs.declared.HeaderMap.{HeaderMap}
-use Rattle.maps.specs.declared.Checked.TheVariants.{Fine}
 use Rattle.maps.proofs.GoodLaws.{ready_of}
 use Rattle.folds.specs.declared.Change.{Change}
-use Rattle.folds.specs.declared.Change.TheVariants.{Nothing, Status as Headed, Put, Refused as Stops}
+use Rattle.folds.specs.declared.Change.TheVariants.{Nothing, Status as Headed, Put}
 use Rattle.line_reader.specs.Reading.{Rules, Reading, lined, ruled, fed, finished}
 use Rattle.reader.specs.Calls.{map_of, gives, feeding, finishing}
 use Rattle.line_reader.specs.Standing.{rules_of, reading_of}
 use Rattle.line_reader.specs.declared.Answer.{Answer}
-use Rattle.line_reader.specs.declared.Answer.TheVariants.{More, Blank, Input, Refused}
+use Rattle.line_reader.specs.declared.Answer.TheVariants.{More, Blank, Input}
 use Rattle.line_reader.proofs.Steps.{unrefused, lined_block, Keeps, fed_keeps, finished_keeps}
 use Rattle.readings.specs.Hears.{Leaves}
 use Rattle.readings.proofs.Cut.{fed_goes, finish_goes}
@@ -33,11 +33,11 @@ module _ (R : Rules) (r : Reading) where
     new : List ℕ
     is : q.found.store ≡ r.found.store ++ new
 
-  lined_wrote : (q : Reading) (a : Answer) (new : List ℕ) (c : Change) → Wrote q → Wrote (lined q a new c)
-  lined_wrote q a new Nothing w = record { new = w.new; is = w.is }
-  lined_wrote q a new (Headed p) w = record { new = w.new; is = w.is }
-  lined_wrote q a new (Stops e) w = record { new = w.new; is = w.is }
-  lined_wrote q a new (Put slot x to) w =
+  lined_wrote : (q : Reading) (a : Result Answer Refusal) (new : List ℕ) (c : Result Change Refusal) → Wrote q → Wrote (lined q a new c)
+  lined_wrote q a new (Ok Nothing) w = record { new = w.new; is = w.is }
+  lined_wrote q a new (Ok (Headed p)) w = record { new = w.new; is = w.is }
+  lined_wrote q a new (Err e) w = record { new = w.new; is = w.is }
+  lined_wrote q a new (Ok (Put slot x to)) w =
       record { new = w.new ++ new; is = ap (λ (l : List ℕ). l ++ new) w.is ∙ append_assoc r.found.store w.new new }
 
   wrote_keeps : Keeps R Wrote
@@ -64,7 +64,7 @@ finished_block : (R : Rules) (r : Reading) → (finished R r).block ≡ r.block
 unfolding finished
 finished_block R r =
     by_if (λ (q : Reading). q.block ≡ r.block) _ _ _ (λ e. refl)
-    (λ e. by_if (λ (q : Reading). q.block ≡ r.block) _ _ _ (λ e. lined_block r Input (ruled R r).new (ruled R r).change) (λ e. refl))
+    (λ e. by_if (λ (q : Reading). q.block ≡ r.block) _ _ _ (λ e. lined_block r (Ok Input) (ruled R r).new (ruled R r).change) (λ e. refl))
 
 -- a text of n octets, and what stands behind it in y, over the list l
 over : (l y : List ℕ) (n : ℕ) (new : List ℕ) → n ≤ length l → y ≡ take n l ++ new → lay l y ≡ pasted l n new
@@ -81,14 +81,14 @@ behind l y n new h e =
     ap (drop n) e ∙ ap (λ (i : ℕ). drop i (take n l ++ new)) (sym k) ∙ drop-append_seam (take n l) new
 
 -- a number empties the map
-emptied : (m : HeaderMap) (q : Reading) (a : Answer) (e : Refusal) → a ≡ Refused e
+emptied : (m : HeaderMap) (q : Reading) (a : Result Answer Refusal) (e : Refusal) → a ≡ Err e
     → map_of m q a ≡ empty (map_of m q a).table m.limit m.room false false Done
-emptied m q More e f = absurd (false≢true (sym (ap unrefused f)))
-emptied m q Blank e f = absurd (false≢true (sym (ap unrefused f)))
-emptied m q Input e f = absurd (false≢true (sym (ap unrefused f)))
-emptied m q (Refused x) e f = refl
+emptied m q (Ok More) e f = absurd (false≢true (sym (ap unrefused f)))
+emptied m q (Ok Blank) e f = absurd (false≢true (sym (ap unrefused f)))
+emptied m q (Ok Input) e f = absurd (false≢true (sym (ap unrefused f)))
+emptied m q (Err x) e f = refl
 
-module _ (m : HeaderMap) (b s : List ℕ) (fine : Fine ≡ checked_reading m b s) where
+module _ (m : HeaderMap) (b s : List ℕ) (fine : Ok tt ≡ checked_reading m b s) where
   ready : Ready m b s
   ready = ready_of _ m b s fine
 

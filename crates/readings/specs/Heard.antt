@@ -1,6 +1,5 @@
 -- Rule 4 in octets: what a line adds to what the lines before it said. `folds.Rule` says the same of places. Assumes nothing.
-use Rattle.std.specs.Prelude.{Bool, false, List, [], ◌∷◌, ◌++◌, ℕ, ◌+◌, ltb, length, take, drop}
-use Rattle.std.proofs.Math.Option.{some}
+use Rattle.std.specs.Prelude.{Bool, false, List, [], ◌∷◌, ◌++◌, ℕ, ◌+◌, ltb, length, take, drop, Some}
 use Rattle.leaves.specs.Choice.{when◌then◌else◌}
 use Rattle.leaves.specs.Octets.{before}
 use Rattle.leaves.specs.Trim.{trimmed}
@@ -29,7 +28,7 @@ fields_in l =
 -- space, trimmed line; .. Else it splits at the first colon"
 unfoldable pub heard : List ℕ → Hearing → Hearing
 heard l h =
-    when h.awaits then record { awaits = false; said = record { status = some (trimmed l); pairs = h.said.pairs } }
+    when h.awaits then record { awaits = false; said = record { status = Some (trimmed l); pairs = h.said.pairs } }
     else when continues l
     then record { awaits = h.awaits; said = record { status = h.said.status; pairs = continued (trimmed l) h.said.pairs } }
     else record { awaits = h.awaits; said = record { status = h.said.status; pairs = h.said.pairs ++ fields_in l } }

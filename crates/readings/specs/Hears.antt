@@ -1,5 +1,5 @@
 -- The page to believe, of readings: what begin, feed and finish say, in octets alone, and what they leave. `proofs/HearsHold` inhabits `Hears`. Assumes nothing.
-use Rattle.std.specs.Prelude.{◌≡◌, Bool, false, List, [], ℕ, ◌+◌, ◌≤◌, length, take, drop}
+use Rattle.std.specs.Prelude.{◌≡◌, Bool, false, List, [], ℕ, ◌+◌, ◌≤◌, length, take, drop, Err, Ok}
 use Rattle.leaves.specs.Paste.{pasted}
 use Rattle.leaves.specs.declared.refusals.Refusal.{Refusal}
 use Rattle.maps.specs.Good.{checked_reading}
@@ -7,11 +7,10 @@ use Rattle.maps.specs.Maps.{empty, Given}
 use Rattle.maps.specs.Said.{Said, saying}
 use Rattle.maps.specs.declared.HeaderMap.{HeaderMap}
 use Rattle.maps.specs.declared.Phase.TheVariants.{Done}
-use Rattle.maps.specs.declared.Checked.TheVariants.{Fine}
 use Rattle.line_reader.specs.Reading.{Reading, fed, finished}
 use Rattle.reader.specs.Calls.{beginning, feeding, finishing, checked_rooms}
 use Rattle.line_reader.specs.Standing.{rules_of, reading_of}
-use Rattle.line_reader.specs.declared.Answer.TheVariants.{Input, Refused}
+use Rattle.line_reader.specs.declared.Answer.TheVariants.{Input}
 use Rattle.reader.specs.declared.Fed.{Fed}
 use Rattle.readings.specs.Listening.{Listening, silent, listening, last_heard, refused, answered}
 
@@ -36,26 +35,26 @@ pub record Told (n : ℕ) (l : Listening) (g : Given Fed) : Type 0 where
 pub record Leaves (m : HeaderMap) (b s p : List ℕ) (r : Reading) (g : Given Fed) : Type 0 where
   pub block : g.block ≡ pasted b m.count (take g.result.taken p)
   pub store : g.store ≡ pasted s m.mark (drop m.mark r.found.store)
-  pub stopped : (e : Refusal) → g.result.answer ≡ Refused e → g.result.map ≡ empty g.result.map.table m.limit m.room false false Done
+  pub stopped : (e : Refusal) → g.result.answer ≡ Err e → g.result.map ≡ empty g.result.map.table m.limit m.room false false Done
 
 pub record Hears : Type 0 where
   -- rules 2 to 4: a feed that is not refused gives what the octets of the piece say behind those before
-  pub heard : (m : HeaderMap) (b s p : List ℕ) → Fine ≡ checked_reading m b s → refused (feeding m b s p).result.answer ≡ false
+  pub heard : (m : HeaderMap) (b s p : List ℕ) → Ok tt ≡ checked_reading m b s → refused (feeding m b s p).result.answer ≡ false
       → Told m.count (listening m.quirks (so_far m b s) p) (feeding m b s p)
   -- "Finish handles a leftover line by rule 4, even one of blanks."
-  pub heard_at_end : (m : HeaderMap) (b s : List ℕ) → Fine ≡ checked_reading m b s → (finishing m b s).result.answer ≡ Input
+  pub heard_at_end : (m : HeaderMap) (b s : List ℕ) → Ok tt ≡ checked_reading m b s → (finishing m b s).result.answer ≡ Ok Input
       → says_then (finishing m b s) ≡ (last_heard (so_far m b s).line (so_far m b s).hearing).said
   -- "4 the block goes on and its count equals the limit", "5 a 257th field is needed", "A reading from its beginning never meets 6": octets
   -- that say no more than 256 fields in no more than the limit are not refused, so they alone tell what a map says that begin made
-  pub begun : (m : HeaderMap) (limit room : ℕ) (status quirks : Bool) (b s p : List ℕ) → Fine ≡ checked_rooms limit room (length b) (length s)
+  pub begun : (m : HeaderMap) (limit room : ℕ) (status quirks : Bool) (b s p : List ℕ) → Ok tt ≡ checked_rooms limit room (length b) (length s)
       → let l = listening quirks (silent status) p in
       l.count ≤ limit → length l.hearing.said.pairs ≤ 256 → Told 0 l (feeding (beginning m limit room status quirks b s).result.map b s p)
   -- nor is the end of input behind them, if the leftover line says no 257th
-  pub begun_at_end : (m : HeaderMap) (limit room : ℕ) (status quirks : Bool) (b s p : List ℕ) → Fine ≡ checked_rooms limit room (length b) (length s)
+  pub begun_at_end : (m : HeaderMap) (limit room : ℕ) (status quirks : Bool) (b s p : List ℕ) → Ok tt ≡ checked_rooms limit room (length b) (length s)
       → let l = listening quirks (silent status) p in
       l.ended ≡ false → l.count ≤ limit → length l.hearing.said.pairs ≤ 256 → length (last_heard l.line l.hearing).said.pairs ≤ 256
       → let g = feeding (beginning m limit room status quirks b s).result.map b s p in
-      (finishing g.result.map g.block g.store).result.answer ≡ Input
+      (finishing g.result.map g.block g.store).result.answer ≡ Ok Input
   -- a feed and a finish, whatever their answer, leave what `Leaves` says
-  pub left : (m : HeaderMap) (b s p : List ℕ) → Fine ≡ checked_reading m b s → Leaves m b s p (fed (rules_of m) (reading_of m b s) p) (feeding m b s p)
-  pub left_at_end : (m : HeaderMap) (b s : List ℕ) → Fine ≡ checked_reading m b s → Leaves m b s [] (finished (rules_of m) (reading_of m b s)) (finishing m b s)
+  pub left : (m : HeaderMap) (b s p : List ℕ) → Ok tt ≡ checked_reading m b s → Leaves m b s p (fed (rules_of m) (reading_of m b s) p) (feeding m b s p)
+  pub left_at_end : (m : HeaderMap) (b s : List ℕ) → Ok tt ≡ checked_reading m b s → Leaves m b s [] (finished (rules_of m) (reading_of m b s)) (finishing m b s)

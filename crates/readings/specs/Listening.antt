@@ -1,7 +1,7 @@
 -- What a reading says, in octets: rules 2 to 5 over texts alone, with no place, limit or room. Assumes nothing.
-use Rattle.std.specs.Prelude.{Bool, true, false, ℕ, suc, length, drop}
+use Rattle.leaves.specs.declared.refusals.Refusal.{Refusal}
+use Rattle.std.specs.Prelude.{Bool, true, false, ℕ, suc, length, drop, Err, None, Ok, Result}
 use mathlib.Core.List.{List, [], ◌∷◌, ◌++◌, foldl, map}
-use Rattle.std.proofs.Math.Option.{none}
 use Rattle.leaves.specs.Choice.{when◌then◌else◌}
 use Rattle.lines.specs.Line.{ends_line, cr_before}
 use Rattle.maps.specs.Said.{Said, pair_at, status_at}
@@ -9,7 +9,7 @@ use Rattle.folds.specs.Rule.{ends_block}
 use Rattle.readings.specs.Heard.{Hearing, heard}
 use Rattle.line_reader.specs.Reading.{Reading}
 use Rattle.line_reader.specs.declared.Answer.{Answer}
-use Rattle.line_reader.specs.declared.Answer.TheVariants.{More, Blank, Input, Refused}
+use Rattle.line_reader.specs.declared.Answer.TheVariants.{More, Blank, Input}
 
 -- octets that are being read: how many were taken, those of the line that has not ended, what the lines before it said, and whether the
 -- block has ended
@@ -21,7 +21,7 @@ pub record Listening : Type 0 where
 
 -- a status line is expected or not, and nothing was taken
 abbrev pub silent : Bool → Listening
-silent status = record { count = 0; line = []; hearing = record { awaits = status; said = record { status = none; pairs = [] } }; ended = false }
+silent status = record { count = 0; line = []; hearing = record { awaits = status; said = record { status = None; pairs = [] } }; ended = false }
 
 -- "The block ends at a line that is just CR LF (quirks: any line of blanks only)." "Any other line": rule 4
 unfoldable pub line_heard : Bool → ℕ → List ℕ → Hearing → Listening
@@ -56,23 +56,23 @@ abbrev pub hearing_of : Reading → Hearing
 hearing_of r = record { awaits = r.found.awaits; said = said r }
 
 -- the reading ended at its blank line
-abbrev pub at_blank : Answer → Bool
-at_blank More = false
-at_blank Blank = true
-at_blank Input = false
-at_blank (Refused e) = false
+abbrev pub at_blank : Result Answer Refusal → Bool
+at_blank (Ok More) = false
+at_blank (Ok Blank) = true
+at_blank (Ok Input) = false
+at_blank (Err e) = false
 
 -- the reading was refused
-abbrev pub refused : Answer → Bool
-refused More = false
-refused Blank = false
-refused Input = false
-refused (Refused e) = true
+abbrev pub refused : Result Answer Refusal → Bool
+refused (Ok More) = false
+refused (Ok Blank) = false
+refused (Ok Input) = false
+refused (Err e) = true
 
 -- the answer of a feed that is not refused, by whether the block has ended
-abbrev pub answered : Bool → Answer
-answered false = More
-answered true = Blank
+abbrev pub answered : Bool → Result Answer Refusal
+answered false = Ok More
+answered true = Ok Blank
 
 -- the same reading in octets
 abbrev pub listening_of : Reading → Listening

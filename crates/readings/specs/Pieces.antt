@@ -1,14 +1,12 @@
 -- Pieces fed one after the other, and the end of input behind them. Assumes nothing.
-use Rattle.std.specs.Prelude.{List, [], ◌∷◌, ℕ, ◌+◌}
+use Rattle.std.specs.Prelude.{List, [], ◌∷◌, ℕ, ◌+◌, Err, Ok, Result, ⊤}
 use Rattle.leaves.specs.Refusals.{refusal}
 use Rattle.leaves.specs.declared.refusals.Refusal.{Refusal}
 use Rattle.maps.specs.Maps.{Given}
 use Rattle.maps.specs.declared.HeaderMap.{HeaderMap}
-use Rattle.maps.specs.declared.Checked.{Checked}
-use Rattle.maps.specs.declared.Checked.TheVariants.{Fine, Refused as Refuses}
 use Rattle.reader.specs.Calls.{feeding, finishing}
 use Rattle.line_reader.specs.declared.Answer.{Answer}
-use Rattle.line_reader.specs.declared.Answer.TheVariants.{More, Blank, Input, Refused}
+use Rattle.line_reader.specs.declared.Answer.TheVariants.{More, Blank, Input}
 use Rattle.reader.specs.declared.Fed.{Fed}
 
 -- what a call gives, when k octets were taken before it
@@ -25,11 +23,11 @@ abbrev pub next : (HeaderMap → List ℕ → List ℕ → Given Fed) → Given 
 next call g = after g.result.taken (call g.result.map g.block g.store)
 
 -- the same, where the call before answered More; an end or a refusal stands
-abbrev pub and_then : (HeaderMap → List ℕ → List ℕ → Given Fed) → Answer → Given Fed → Given Fed
-and_then call More g = next call g
-and_then call Blank g = g
-and_then call Input g = g
-and_then call (Refused e) g = g
+abbrev pub and_then : (HeaderMap → List ℕ → List ℕ → Given Fed) → Result Answer Refusal → Given Fed → Given Fed
+and_then call (Ok More) g = next call g
+and_then call (Ok Blank) g = g
+and_then call (Ok Input) g = g
+and_then call (Err e) g = g
 
 -- "Feeding answers more, ended, or a number": a piece is fed while the one before it answered more
 unfoldable pub feedings : HeaderMap → List ℕ → List ℕ → List (List ℕ) → Given Fed
@@ -41,6 +39,6 @@ unfoldable pub readings : HeaderMap → List ℕ → List ℕ → List (List ℕ
 readings m b s ps = and_then finishing (feedings m b s ps).result.answer (feedings m b s ps)
 
 -- the number of a call behind an end: 7, or that of the first checks again
-abbrev pub behind : Checked → Refusal
-behind Fine = refusal 7
-behind (Refuses x) = x
+abbrev pub behind : Result ⊤ Refusal → Refusal
+behind (Ok tt) = refusal 7
+behind (Err x) = x

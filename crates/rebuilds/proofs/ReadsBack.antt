@@ -1,8 +1,8 @@
 -- Reading the rebuilt block of a clean map gives the map back, so the rebuild is one to one. Assumes nothing.
+use Rattle.std.specs.Prelude.{None, Option, Some}
 use mathlib.Core.Path.{◌≡◌, sym, ◌∙◌, ap, subst}
 use mathlib.Core.Bool.{Bool, true, false, false≢true}
 use mathlib.Core.List.{List, [], ◌∷◌, ◌++◌, append_assoc}
-use mathlib.Core.Option.{Option, none, some}
 use Prim.Native.Nat.{ℕ, ◌+◌, ◌≤◌}
 use native.Mathlib.Nat.{zero-add}
 use native.Mathlib.Omega.{arith}
@@ -31,16 +31,16 @@ module _ (quirks : Bool) where
       → let b = rebuilt (record { status = st; pairs = ps }) in
       listening quirks (silent (expects st)) b ≡ over (length b) (hearing st ps)
   unfolding rebuilt status_line clean_status
-  status_heard none ps n k = lines_heard 0 none ps k ∙ ap (λ (j : ℕ). over j (hearing none ps)) (zero-add (length (pair_lines ps ++ crlf)))
-  status_heard (some []) ps n k = absurd (false≢true n)
-  status_heard (some (x ∷ xs)) ps n k =
+  status_heard None ps n k = lines_heard 0 None ps k ∙ ap (λ (j : ℕ). over j (hearing None ps)) (zero-add (length (pair_lines ps ++ crlf)))
+  status_heard (Some []) ps n k = absurd (false≢true n)
+  status_heard (Some (x ∷ xs)) ps n k =
       let rest : List ℕ = pair_lines ps ++ crlf in
       let z : 0 + length (x ∷ xs) + 2 + length rest ≡ length (x ∷ xs ++ crlf ++ rest) = omega (arith, length-append (x ∷ xs ++ crlf) rest, length-append (x ∷ xs) crlf) in
       ap (listening quirks (silent true)) (append_assoc (x ∷ xs) crlf rest) ∙
       line_on quirks (x ∷ xs) rest 0 _ (neat_lf (x ∷ xs) n) (no_end quirks x (xs ++ crlf) (first_solid x xs (neat_trim (x ∷ xs) n))) ∙
       ap (λ (h : Hearing). listening quirks (between (0 + length (x ∷ xs) + 2) h) rest)
-      (heard_status (x ∷ xs ++ crlf) _ ∙ ap (λ (t : List ℕ). hearing (some t) []) (trim_line (x ∷ xs) ∙ neat_trim (x ∷ xs) n)) ∙
-      lines_heard (0 + length (x ∷ xs) + 2) (some (x ∷ xs)) ps k ∙ ap (λ (j : ℕ). over j (hearing (some (x ∷ xs)) ps)) z
+      (heard_status (x ∷ xs ++ crlf) _ ∙ ap (λ (t : List ℕ). hearing (Some t) []) (trim_line (x ∷ xs) ∙ neat_trim (x ∷ xs) n)) ∙
+      lines_heard (0 + length (x ∷ xs) + 2) (Some (x ∷ xs)) ps k ∙ ap (λ (j : ℕ). over j (hearing (Some (x ∷ xs)) ps)) z
 
   -- the octets of the rebuilt block of a clean map say the map
   pub rebuilt_heard : (m : Said) → clean m ≡ true → listening quirks (silent (expects m.status)) (rebuilt m) ≡ over (length (rebuilt m)) (hearing m.status m.pairs)

@@ -1,8 +1,8 @@
 -- A block is tidy exactly if it fits and one pass over its lines finds nothing wrong. Assumes nothing.
+use Rattle.std.specs.Prelude.{None, Option, Some}
 use mathlib.Core.Path.{◌≡◌, refl, sym, ◌∙◌, ap}
 use mathlib.Core.Bool.{Bool, true, false, ◌&&◌, false≢true}
 use mathlib.Core.List.{List, [], ◌∷◌, ◌++◌, append_assoc}
-use mathlib.Core.Option.{Option, none, some}
 use Prim.Native.Nat.{ℕ, ◌≤◌}
 use borrow.Author.Tests.{le-leb, leb-true}
 use lib.Dec.{leb}
@@ -22,15 +22,15 @@ use Rattle.rebuilds.proofs.ScanPairs.{scan_clean, scan_lines}
 scan_rebuilt : (st : Option (List ℕ)) (ps : List Pair) → clean_status st ≡ true → clean_pairs ps ≡ true → length ps ≤ 256
     → scanned (expects st) (rebuilt (record { status = st; pairs = ps })) ≡ true
 unfolding scanned rebuilt status_line clean_status
-scan_rebuilt none ps n c h = scan_clean ps 256 c h
-scan_rebuilt (some []) ps n c h = absurd (false≢true n)
-scan_rebuilt (some (x ∷ xs)) ps n c h =
+scan_rebuilt None ps n c h = scan_clean ps 256 c h
+scan_rebuilt (Some []) ps n c h = absurd (false≢true n)
+scan_rebuilt (Some (x ∷ xs)) ps n c h =
     let w : List ℕ = pair_lines ps ++ crlf in
     rw (append_assoc (x ∷ xs) crlf w, text_at (x ∷ xs) w n, after_line_lem (x ∷ xs) w n)
     (and_both _ _ (neat_line_lem (x ∷ xs) w n) (scan_clean ps 256 c h))
 
 -- what passes is the rebuilt block of a clean map
-status_filled : (l : List ℕ) → filled l ≡ true → status_line (some l) ≡ l ++ crlf
+status_filled : (l : List ℕ) → filled l ≡ true → status_line (Some l) ≡ l ++ crlf
 unfolding status_line
 status_filled [] e = absurd (false≢true e)
 status_filled (x ∷ xs) e = refl
@@ -39,14 +39,14 @@ rebuilt_scan : (limit : ℕ) (status : Bool) (b : List ℕ) → length b ≤ lim
 unfolding scanned rebuilt status_line clean clean_status
 rebuilt_scan limit false b z e =
     let r = scan_lines 256 b e in
-    (record { status = none; pairs = r.pairs }, record { is_clean = r.is_clean; agrees = refl; few = r.few; fits = z; is = r.is })
+    (record { status = None; pairs = r.pairs }, record { is_clean = r.is_clean; agrees = refl; few = r.few; fits = z; is = r.is })
 rebuilt_scan limit true b z e =
     let s : List ℕ = take (before 13 b) b in
     let f : filled s ≡ true = and_left (filled s) _ e in
     let g = and_right (filled s) _ e in
     let n : neat_line b ≡ true = and_left (neat_line b) _ g in
     let r = scan_lines 256 (after_line b) (and_right (neat_line b) _ g) in (
-      record { status = some s; pairs = r.pairs },
+      record { status = Some s; pairs = r.pairs },
       record {
         is_clean = and_both _ _ (and_both (filled s) (neat s) f (line_neat b n)) r.is_clean;
         agrees = refl;

@@ -1,6 +1,5 @@
 -- Clean maps and tidy blocks. Assumes nothing.
-use Rattle.std.specs.Prelude.{Bool, true, false, ◌&&◌, not, List, [], ◌∷◌, ◌≡◌, ℕ, ◌≤◌, eqb, length}
-use Rattle.std.proofs.Math.Option.{Option, none, some}
+use Rattle.std.specs.Prelude.{Bool, true, false, ◌&&◌, not, List, [], ◌∷◌, ◌≡◌, ℕ, ◌≤◌, eqb, length, None, Ok, Option, Some}
 use Rattle.leaves.specs.Octets.{has, same_list}
 use Rattle.leaves.specs.Trim.{trimmed}
 use Rattle.line_reader.specs.Reading.{Rules, Reading, begun, fed}
@@ -27,8 +26,8 @@ clean_pairs (p ∷ ps) = clean_pair p && clean_pairs ps
 
 -- "a present status without CR, LF or outer blanks; a present status non-empty"
 unfoldable pub clean_status : Option (List ℕ) → Bool
-clean_status none = true
-clean_status (some l) = filled l && neat l
+clean_status None = true
+clean_status (Some l) = filled l && neat l
 
 -- "Clean: every key non-empty, without colon; keys, values and a present status without CR, LF or outer blanks; a present status
 -- non-empty."
@@ -37,12 +36,12 @@ clean m = clean_status m.status && clean_pairs m.pairs
 
 -- a status is present
 abbrev pub expects : Option (List ℕ) → Bool
-expects none = false
-expects (some l) = true
+expects None = false
+expects (Some l) = true
 
 -- a reading that ended at its blank line, has taken all of b and says m
 pub record Gives (b : List ℕ) (m : Said) (r : Reading) : Type 0 where
-  pub answer : r.answer ≡ Blank
+  pub answer : r.answer ≡ Ok Blank
   pub block : r.block ≡ b
   pub says : said r ≡ m
 

@@ -1,4 +1,5 @@
 -- What a feed takes and leaves, of a map and loans that its first checks pass. Assumes nothing.
+use Rattle.std.specs.Prelude.{Err, Ok, Result}
 use mathlib.Core.Path.{◌≡◌, refl, sym, ap, ◌∙◌, subst}
 use mathlib.Core.Bool.{true, false}
 use mathlib.Core.List.{List, [], ◌∷◌, ◌++◌}
@@ -13,14 +14,13 @@ use Rattle.maps.specs.Maps.{empty, Given}
 use Rattle.maps.specs.declared.Field.{Field}
 use Rattle.maps.specs.declared.Phase.TheVariants.{Done}
 use Rattle.maps.specs.declared.HeaderMap.{HeaderMap}
-use Rattle.maps.specs.declared.Checked.TheVariants.{Fine}
 use Rattle.maps.proofs.GoodBy.{good_facts, good_empty, rooms_by}
 use Rattle.maps.proofs.GoodLaws.{ready_of, checked_fine}
 use Rattle.line_reader.specs.Reading.{Rules, Gathered, Reading, goes, step, fed}
 use Rattle.reader.specs.Calls.{map_of, gives, feeding}
 use Rattle.line_reader.specs.Standing.{rules_of, reading_of}
 use Rattle.line_reader.specs.declared.Answer.{Answer}
-use Rattle.line_reader.specs.declared.Answer.TheVariants.{More, Blank, Input, Refused}
+use Rattle.line_reader.specs.declared.Answer.TheVariants.{More, Blank, Input}
 use Rattle.reader.specs.declared.Fed.{Fed}
 use Rattle.reader.proofs.FedLaws.{fed_none, fed_more, taken_within}
 use Rattle.walker.specs.Walk.{emptied}
@@ -50,7 +50,7 @@ pub record Empties (m : HeaderMap) (b s : List ℕ) (g : Given Fed) : Type 0 whe
   pub block : g.block ≡ b
   pub store : g.store ≡ s
 
-module _ (m : HeaderMap) (b s : List ℕ) (fine : Fine ≡ checked_reading m b s) where
+module _ (m : HeaderMap) (b s : List ℕ) (fine : Ok tt ≡ checked_reading m b s) where
   ready : Ready m b s
   ready = ready_of _ m b s fine
 
@@ -76,17 +76,17 @@ module _ (m : HeaderMap) (b s : List ℕ) (fine : Fine ≡ checked_reading m b s
     pub later : Later (rules_of m) (reading_of m b s) Q
     later = fed_later (rules_of m) (reading_of m b s) xs (sound_of m b s ready)
 
-    pub reached : (a : Answer) → Q.answer ≡ a → Reaches m.count (length xs) (length Q.block) a
+    pub reached : (a : Result Answer Refusal) → Q.answer ≡ a → Reaches m.count (length xs) (length Q.block) a
     reached a e = rw count_is at (subst (Reaches (length (take m.count b)) (length xs) (length Q.block)) e (fed_reaches (rules_of m) (reading_of m b s) xs refl))
 
-    pub fed_good : (a : Answer) → good (map_of m Q a) ≡ true
+    pub fed_good : (a : Result Answer Refusal) → good (map_of m Q a) ≡ true
     fed_good a = good_of m b s ready Q a later.sound
 
     -- the map of a reading that ended at its blank line is one that every call but feed and finish takes
-    pub done : Fine ≡ checked_done (map_of m Q Blank) (lay b Q.block) (lay s Q.found.store)
+    pub done : Ok tt ≡ checked_done (map_of m Q (Ok Blank)) (lay b Q.block) (lay s Q.found.store)
     done =
-        checked_fine _ (map_of m Q Blank) (length (lay b Q.block)) (length (lay s Q.found.store))
-        (fed_good Blank) (lent_of m b s ready Q Blank) refl
+        checked_fine _ (map_of m Q (Ok Blank)) (length (lay b Q.block)) (length (lay s Q.found.store))
+        (fed_good (Ok Blank)) (lent_of m b s ready Q (Ok Blank)) refl
 
   module _ (xs : List ℕ) where
     abbrev few : List ℕ
@@ -106,36 +106,36 @@ module _ (m : HeaderMap) (b s : List ℕ) (fine : Fine ≡ checked_reading m b s
     on : Q xs ≡ fed (rules_of m) (Q few) rest
     on = ap (fed (rules_of m) (reading_of m b s)) (sym (take-append-drop (taken xs) xs)) ∙ fed_cut (rules_of m) (reading_of m b s) few rest
 
-    further : (Q few).answer ≡ More → (Q xs).answer ≡ Blank → length (Q few).block < length (Q xs).block
+    further : (Q few).answer ≡ Ok More → (Q xs).answer ≡ Ok Blank → length (Q few).block < length (Q xs).block
     further f e =
         subst (Reaches (length (Q few).block) (length rest) (length (Q xs).block)) e
         (subst (λ (q : Reading). Reaches (length (Q few).block) (length rest) (length q.block) q.answer) (sym on) (fed_reaches (rules_of m) (Q few) rest f))
 
     -- a feed that ended at its blank line is one of the octets that it took
-    pub taken_enough : (Q xs).answer ≡ Blank → T
+    pub taken_enough : (Q xs).answer ≡ Ok Blank → T
     taken_enough e = choose (Q few).answer refl
       where
-        choose : (a : Answer) → (Q few).answer ≡ a → T
-        choose More f = absurd (omega (arith, further f e, within xs, length-take (taken xs) xs, reached few More f))
-        choose Blank f = ended (ap goes f)
-        choose Input f = ended (ap goes f)
-        choose (Refused x) f = ended (ap goes f)
+        choose : (a : Result Answer Refusal) → (Q few).answer ≡ a → T
+        choose (Ok More) f = absurd (omega (arith, further f e, within xs, length-take (taken xs) xs, reached few (Ok More) f))
+        choose (Ok Blank) f = ended (ap goes f)
+        choose (Ok Input) f = ended (ap goes f)
+        choose (Err x) f = ended (ap goes f)
 
-    untaken : (Q few).answer ≡ More → (x : Refusal) → (Q xs).answer ≡ Refused x → Same (Q few) (Q xs)
+    untaken : (Q few).answer ≡ Ok More → (x : Refusal) → (Q xs).answer ≡ Err x → Same (Q few) (Q xs)
     untaken f x e =
         subst (Same (Q few)) (sym on)
         (fed_untaken (rules_of m) (Q few) rest f
-        (ap (λ (q : Reading). length q.block) (sym on) ∙ omega (arith, within xs, length-take (taken xs) xs, reached few More f, (reached xs (Refused x) e).0)))
+        (ap (λ (q : Reading). length q.block) (sym on) ∙ omega (arith, within xs, length-take (taken xs) xs, reached few (Ok More) f, (reached xs (Err x) e).0)))
 
     -- what a feed gave that was refused by x
     abbrev Emptied : Refusal → Given Fed → Type 0
-    Emptied x g = Empties (map_of m (Q xs) (Refused x)) (lay b (Q xs).block) (lay s (Q xs).found.store) g
+    Emptied x g = Empties (map_of m (Q xs) (Err x)) (lay b (Q xs).block) (lay s (Q xs).found.store) g
 
     -- and one that was refused leaves what one of the octets that it took leaves, once the map is emptied
-    pub taken_refused : (x : Refusal) → (Q xs).answer ≡ Refused x → Emptied x (feeding m b s few)
+    pub taken_refused : (x : Refusal) → (Q xs).answer ≡ Err x → Emptied x (feeding m b s few)
     taken_refused x e = choose (Q few).answer refl
       where
-        gave : Reading → Answer → Given Fed
+        gave : Reading → Result Answer Refusal → Given Fed
         gave q a = record { result = record { map = map_of m q a; taken = length q.block - m.count; answer = a }; block = lay b q.block; store = lay s q.found.store }
 
         whole : T → Emptied x (feeding m b s few)
@@ -143,8 +143,8 @@ module _ (m : HeaderMap) (b s : List ℕ) (fine : Fine ≡ checked_reading m b s
             subst (Emptied x) (sym (h ∙ fed_goes m b s xs fine ∙ ap (gave (Q xs)) e))
             (record { map = refl; block = refl; store = refl })
 
-        choose : (a : Answer) → (Q few).answer ≡ a → Emptied x (feeding m b s few)
-        choose More f =
+        choose : (a : Result Answer Refusal) → (Q few).answer ≡ a → Emptied x (feeding m b s few)
+        choose (Ok More) f =
             let h = untaken f x e in
             subst (Emptied x) (sym (fed_goes m b s few fine ∙ ap (gave (Q few)) f))
             (record {
@@ -152,6 +152,6 @@ module _ (m : HeaderMap) (b s : List ℕ) (fine : Fine ≡ checked_reading m b s
               block = ap (lay b) (sym h.block);
               store = ap (λ (d : Gathered). lay s d.store) (sym h.found);
             })
-        choose Blank f = whole (ended (ap goes f))
-        choose Input f = whole (ended (ap goes f))
-        choose (Refused y) f = whole (ended (ap goes f))
+        choose (Ok Blank) f = whole (ended (ap goes f))
+        choose (Ok Input) f = whole (ended (ap goes f))
+        choose (Err y) f = whole (ended (ap goes f))

@@ -1,4 +1,6 @@
 -- What the page says of a walk that reads octets of a header. Assumes nothing.
+use Rattle.leaves.specs.declared.refusals.Refusal.{Refusal}
+use Rattle.std.specs.Prelude.{Err, Ok, Result}
 use mathlib.Core.Path.{◌≡◌, refl, sym, ap, ◌∙◌, subst}
 use mathlib.Core.Bool.{true}
 use mathlib.Core.List.{List, ◌∷◌}
@@ -13,22 +15,18 @@ use Rattle.maps.specs.Good.{good, checked_reading}
 use Rattle.maps.specs.Maps.{Given}
 use Rattle.maps.specs.Said.{saying}
 use Rattle.maps.specs.declared.HeaderMap.{HeaderMap}
-use Rattle.maps.specs.declared.Checked.TheVariants.{Fine}
 use Rattle.line_reader.specs.Reading.{Reading, fed}
 use Rattle.reader.specs.Calls.{map_of, feeding}
 use Rattle.line_reader.specs.Standing.{rules_of, reading_of}
 use Rattle.line_reader.specs.declared.Answer.{Answer}
-use Rattle.line_reader.specs.declared.Answer.TheVariants.{More, Blank, Input, Refused as FedRefused}
+use Rattle.line_reader.specs.declared.Answer.TheVariants.{More, Blank, Input}
 use Rattle.reader.specs.declared.Fed.{Fed}
 use Rattle.readings.proofs.Cut.{fed_goes}
 use Rattle.openings.specs.Opening.{opened}
-use Rattle.openings.specs.declared.Opening.{Opening}
-use Rattle.openings.specs.declared.Opening.TheVariants.{Record as Opens, Refused as Shut}
 use Rattle.openings.proofs.OpenLaws.{opening_goes}
 use Rattle.walker.specs.Walk.{furthest, walked, fresh, emptied, allowed, opened_at, header_more, header_by, header_read}
 use Rattle.walker.specs.Answers.{told}
 use Rattle.walker.specs.declared.Stage.TheVariants.{Between, Header, Stopped}
-use Rattle.walker.specs.declared.Step.TheVariants.{Refused}
 use Rattle.walker.specs.declared.Walker.{Walker}
 use Rattle.walker.specs.declared.Walked.{Walked}
 use Rattle.walker.proofs.WalkLaws.{allowed_is, header_read_is, by_more}
@@ -47,7 +45,7 @@ pub record Reads (w : Walker) (m : HeaderMap) (b s p : List ℕ) (g : Given Walk
   pub header : InHeader g (feeding m b s (take g.result.taken p))
   pub numbers : Numbers w p g.result
 
-module _ (w : Walker) (m : HeaderMap) (start : ℕ) (b s p : List ℕ) (fine : Fine ≡ checked_reading m b s) where
+module _ (w : Walker) (m : HeaderMap) (start : ℕ) (b s p : List ℕ) (fine : Ok tt ≡ checked_reading m b s) where
   abbrev k : ℕ
   k = allowed w.position (length p)
 
@@ -64,7 +62,7 @@ module _ (w : Walker) (m : HeaderMap) (start : ℕ) (b s p : List ℕ) (fine : F
   S = lay s Q.found.store
 
   -- what the reader's feed gave, by its answer
-  abbrev gave : Answer → Given Fed
+  abbrev gave : Result Answer Refusal → Given Fed
   gave a = record { result = record { map = map_of m Q a; taken = taken; answer = a }; block = B; store = S }
 
   abbrev left : Walked → Given Walked
@@ -82,11 +80,11 @@ module _ (w : Walker) (m : HeaderMap) (start : ℕ) (b s p : List ℕ) (fine : F
   few_is : take taken (take k p) ≡ take taken p
   few_is = take-take taken k p (omega (arith, within m b s fine (take k p), takes))
 
-  fair : (a : Answer) → good (map_of m Q a) ≡ true
+  fair : (a : Result Answer Refusal) → good (map_of m Q a) ≡ true
   fair = fed_good m b s fine (take k p)
 
   -- a feed of the octets that were taken gives the same
-  gave_is : (a : Answer) → Q.answer ≡ a → feeding m b s (take taken (take k p)) ≡ feeding m b s (take k p) → feeding m b s (take taken p) ≡ gave a
+  gave_is : (a : Result Answer Refusal) → Q.answer ≡ a → feeding m b s (take taken (take k p)) ≡ feeding m b s (take k p) → feeding m b s (take taken p) ≡ gave a
   gave_is a e h =
       ap (feeding m b s) (sym few_is) ∙ h ∙ fed_goes m b s (take k p) fine ∙ ap gave e
 
@@ -115,14 +113,14 @@ module _ (w : Walker) (m : HeaderMap) (start : ℕ) (b s p : List ℕ) (fine : F
   T r = Reads w m b s p (left r)
 
   abbrev far : Walked
-  far = walked (emptied (map_of m Q More)) (w.position + taken) w.rest (Stopped (refusal 13)) start taken (Refused (refusal 13))
+  far = walked (emptied (map_of m Q (Ok More))) (w.position + taken) w.rest (Stopped (refusal 13)) start taken (Err (refusal 13))
 
-  more_reads : Q.answer ≡ More → T (header_more (map_of m Q More) (w.position + taken) w.rest start taken k (length p))
+  more_reads : Q.answer ≡ Ok More → T (header_more (map_of m Q (Ok More)) (w.position + taken) w.rest start taken k (length p))
   more_reads e =
-      by_more T w (map_of m Q More) (w.position + taken) w.rest start taken k (length p)
+      by_more T w (map_of m Q (Ok More)) (w.position + taken) w.rest start taken k (length p)
       (λ d.
-      let all : taken ≡ k = omega (arith, reached m b s fine (take k p) More e, takes) in
-      reads far refl (emptied_good (map_of m Q More) (fair More))
+      let all : taken ≡ k = omega (arith, reached m b s fine (take k p) (Ok More) e, takes) in
+      reads far refl (emptied_good (map_of m Q (Ok More)) (fair (Ok More)))
       (record {
         four_to_six = λ i j. absurd (omega arith);
         nine = λ f. absurd (omega arith);
@@ -130,7 +128,7 @@ module _ (w : Walker) (m : HeaderMap) (start : ℕ) (b s p : List ℕ) (fine : F
         thirteen =
             λ _.
             subst (Empty far)
-            (sym (gave_is More e (ap (λ (n : ℕ). feeding m b s (take n (take k p))) all ∙ ap (feeding m b s) (take-take k k p (omega arith)))))
+            (sym (gave_is (Ok More) e (ap (λ (n : ℕ). feeding m b s (take n (take k p))) all ∙ ap (feeding m b s) (take-take k k p (omega arith)))))
             (record { map = refl; block = refl; store = refl });
       })
       (record {
@@ -139,32 +137,32 @@ module _ (w : Walker) (m : HeaderMap) (start : ℕ) (b s p : List ℕ) (fine : F
         thirteen = λ _. (omega (arith, all, k_is), omega (arith, all));
         eleven = λ f. absurd (omega arith);
       }))
-      (λ _. plain _ refl (fair More) refl (λ j h i f. omega arith) (λ i j. absurd (omega arith)))
+      (λ _. plain _ refl (fair (Ok More)) refl (λ j h i f. omega arith) (λ i j. absurd (omega arith)))
 
-  opened_reads : Q.answer ≡ Blank → (o : Opening) → opened (saying (map_of m Q Blank) B S) ≡ o
-      → T (opened_at (map_of m Q Blank) (w.position + taken) w.rest start taken o)
-  opened_reads e (Opens size kind) f = plain _ refl (fair Blank) (refl, refl, refl, refl) (λ j h i f. omega arith) (λ i j. absurd (omega arith))
-  opened_reads e (Shut x) f =
-      let low = opened_refused (saying (map_of m Q Blank) B S) x f in
-      reads _ refl (fair Blank)
+  opened_reads : Q.answer ≡ Ok Blank → (o : Result (ℕ × ℕ) Refusal) → opened (saying (map_of m Q (Ok Blank)) B S) ≡ o
+      → T (opened_at (map_of m Q (Ok Blank)) (w.position + taken) w.rest start taken o)
+  opened_reads e (Ok (size, kind)) f = plain _ refl (fair (Ok Blank)) (refl, refl, refl, refl) (λ j h i f. omega arith) (λ i j. absurd (omega arith))
+  opened_reads e (Err x) f =
+      let low = opened_refused (saying (map_of m Q (Ok Blank)) B S) x f in
+      reads _ refl (fair (Ok Blank))
       (record { four_to_six = λ i j. absurd (omega (arith, low.0)); nine = λ _. ended; ten = λ _. ended; thirteen = λ f. absurd (omega (arith, low.1)) })
       (record { follows = refl; near = near; thirteen = λ f. absurd (omega (arith, low.1)); eleven = λ f. absurd (omega (arith, low.1)) })
     where
-      ended : ((feeding m b s (take taken p)).result.answer ≡ Blank)
+      ended : ((feeding m b s (take taken p)).result.answer ≡ Ok Blank)
           × Leaves (feeding m b s (take taken p)).result.map (feeding m b s (take taken p)).block (feeding m b s (take taken p)).store
-          (left (opened_at (map_of m Q Blank) (w.position + taken) w.rest start taken (Shut x)))
-      ended = rw (gave_is Blank e (taken_enough m b s fine (take k p) e)) (refl, record { map = refl; block = refl; store = refl })
+          (left (opened_at (map_of m Q (Ok Blank)) (w.position + taken) w.rest start taken (Err x)))
+      ended = rw (gave_is (Ok Blank) e (taken_enough m b s fine (take k p) e)) (refl, record { map = refl; block = refl; store = refl })
 
-  by_answer : (a : Answer) → Q.answer ≡ a → T (header_by a (map_of m Q a) (w.position + taken) w.rest start taken k (length p) B S)
-  by_answer More e = more_reads e
-  by_answer Blank e = rw (opening_goes (map_of m Q Blank) B S (done m b s fine (take k p))) (opened_reads e (opened (saying (map_of m Q Blank) B S)) refl)
-  by_answer Input e = absurd (reached m b s fine (take k p) Input e)
-  by_answer (FedRefused x) e =
-      let low = (reached m b s fine (take k p) (FedRefused x) e).1 in
+  by_answer : (a : Result Answer Refusal) → Q.answer ≡ a → T (header_by a (map_of m Q a) (w.position + taken) w.rest start taken k (length p) B S)
+  by_answer (Ok More) e = more_reads e
+  by_answer (Ok Blank) e = rw (opening_goes (map_of m Q (Ok Blank)) B S (done m b s fine (take k p))) (opened_reads e (opened (saying (map_of m Q (Ok Blank)) B S)) refl)
+  by_answer (Ok Input) e = absurd (reached m b s fine (take k p) (Ok Input) e)
+  by_answer (Err x) e =
+      let low = (reached m b s fine (take k p) (Err x) e).1 in
       let g = taken_refused m b s fine (take k p) x e in
-      plain _ refl (fair (FedRefused x)) refl (λ j h i f. omega arith)
+      plain _ refl (fair (Err x)) refl (λ j h i f. omega arith)
       (λ _ _.
-      subst (Empty (walked (map_of m Q (FedRefused x)) (w.position + taken) w.rest (Stopped x) start taken (Refused x))) (ap (feeding m b s) few_is)
+      subst (Empty (walked (map_of m Q (Err x)) (w.position + taken) w.rest (Stopped x) start taken (Err x))) (ap (feeding m b s) few_is)
       (record { map = sym g.map; block = sym g.block; store = sym g.store }))
 
   pub read_after : Reads w m b s p (header_read w m start k b s p)

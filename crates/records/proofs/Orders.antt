@@ -1,4 +1,6 @@
 -- The records of a file stand in their order. Assumes nothing.
+use Rattle.leaves.specs.declared.refusals.Refusal.{Refusal}
+use Rattle.std.specs.Prelude.{Err, Ok, Result}
 use mathlib.Core.Path.{◌≡◌}
 use mathlib.Core.Bool.{true}
 use mathlib.Core.List.{List, [], ◌∷◌}
@@ -11,10 +13,8 @@ use Rattle.readings.specs.Listening.{said}
 use Rattle.line_reader.specs.Reading.{Rules, Reading, step}
 use Rattle.line_reader.specs.Reading.{begun as begins}
 use Rattle.line_reader.specs.declared.Answer.{Answer}
-use Rattle.line_reader.specs.declared.Answer.TheVariants.{More, Blank, Input, Refused}
+use Rattle.line_reader.specs.declared.Answer.TheVariants.{More, Blank, Input}
 use Rattle.openings.specs.Opening.{opened}
-use Rattle.openings.specs.declared.Opening.{Opening}
-use Rattle.openings.specs.declared.Opening.TheVariants.{Record as Opens, Refused as Shut}
 use Rattle.walker.specs.Walk.{trailer}
 use Rattle.records.specs.Layout.{Listed, Sign, begins_record, body_octet, record_ended, ends_file, stopped_by, Behind, trailing, bodied, listed, answered, headed, file}
 use Rattle.records.specs.Order.{end_of, Rising, begun, ends, ended}
@@ -61,16 +61,16 @@ module _ (n : ℕ) (behind : Behind) where
       by_if P _ _ _ (λ _. tt) (λ _. rest)
 
 module _ (R : Rules) (start : ℕ) (behind : ℕ → Behind) (h : (size at : ℕ) → From (at + size + 4) (behind size) at) where
-  listed_from : (r : Reading) (o : Opening) (position : ℕ) → start < position → From start (listed start (said r) o behind) position
-  listed_from r (Opens size kind) position i xs = (omega arith, i, h size position xs)
-  listed_from r (Shut e) position i xs = tt
+  listed_from : (r : Reading) (o : Result (ℕ × ℕ) Refusal) (position : ℕ) → start < position → From start (listed start (said r) o behind) position
+  listed_from r (Ok (size, kind)) position i xs = (omega arith, i, h size position xs)
+  listed_from r (Err e) position i xs = tt
 
-  answered_from : (a : Answer) (r : Reading) (position : ℕ) (xs : List ℕ) (more : List Sign) → start < position → Rising start (begun more)
+  answered_from : (a : Result Answer Refusal) (r : Reading) (position : ℕ) (xs : List ℕ) (more : List Sign) → start < position → Rising start (begun more)
       → Rising start (begun (answered a start r behind position xs more))
-  answered_from More r position xs more i m = m
-  answered_from Blank r position xs more i m = listed_from r (opened (said r)) position i xs
-  answered_from Input r position xs more i m = m
-  answered_from (Refused e) r position xs more i m = tt
+  answered_from (Ok More) r position xs more i m = m
+  answered_from (Ok Blank) r position xs more i m = listed_from r (opened (said r)) position i xs
+  answered_from (Ok Input) r position xs more i m = m
+  answered_from (Err e) r position xs more i m = tt
 
   headed_from : (r : Reading) (position : ℕ) → start ≤ position → From start (headed R start r behind) position
   unfolding headed

@@ -1,4 +1,5 @@
 -- The page's sentences on a single call, in every stage. Assumes nothing.
+use Rattle.std.specs.Prelude.{Err, Ok, Result, true}
 use mathlib.Core.Path.{◌≡◌, refl, sym, ap, ◌∙◌, subst}
 use mathlib.Core.Bool.{false, false≢true}
 use mathlib.Core.List.{List, [], ◌∷◌}
@@ -9,15 +10,13 @@ use Rattle.leaves.specs.Refusals.{number, refusal}
 use Rattle.leaves.specs.declared.refusals.Refusal.{Refusal}
 use Rattle.maps.specs.Good.{good}
 use Rattle.maps.specs.Maps.{Given}
-use Rattle.maps.specs.declared.Checked.TheVariants.{Refused as Bad}
 use Rattle.maps.proofs.GoodLaws.{not_refused}
 use Rattle.walker.specs.Walk.{furthest, keeps, stands, stops_at, fresh, allowed, rest_walked, between_walked, header_walked, stage_walked, stage_ended, resting, checked_walker, walking, ending}
 use Rattle.walker.specs.Answers.{told}
 use Rattle.walker.specs.declared.Stage.{Stage}
 use Rattle.walker.specs.declared.Stage.TheVariants.{Between, Header, Body, Cr, Lf, LastCr, LastLf, Ended, Stopped}
-use Rattle.walker.specs.declared.Resting.TheVariants.{Stopped as Stays, Ended as Over, Walks}
 use Rattle.walker.specs.declared.Step.{Step}
-use Rattle.walker.specs.declared.Step.TheVariants.{More, End, Refused}
+use Rattle.walker.specs.declared.Step.TheVariants.{More, End}
 use Rattle.walker.specs.declared.Walker.{Walker}
 use Rattle.walker.specs.declared.Walked.{Walked}
 use Rattle.walker.proofs.WalkLaws.{allowed_is, is_given, checks_give, by_body, by_rest, by_between, by_header, body_part_lem, rest_some, walk_checked, walk_stopped, on_empty, on_stage, walk_rests, walk_over, end_rests, end_over, end_checked, end_stopped}
@@ -30,7 +29,7 @@ use Rattle.records.proofs.Ways.{apart, quiet, far_outside, far_inside, trailer_a
 use Rattle.records.proofs.HeaderWays.{read_after, reads_on, begins}
 
 -- the first checks give 2, 3 or 7
-low_checks : (w : Walker) (b s : List ℕ) (x : Refusal) → Bad x ≡ checked_walker w (length b) (length s) → (number x < 8) × (3 < number x → 6 < number x)
+low_checks : (w : Walker) (b s : List ℕ) (x : Refusal) → Err x ≡ checked_walker w (length b) (length s) → (number x < 8) × (3 < number x → 6 < number x)
 low_checks w b s =
     checks_give (λ (x : Refusal). (number x < 8) × (3 < number x → 6 < number x)) (omega arith, λ i. omega arith) (omega arith, λ i. omega arith) (omega arith, λ i. omega arith)
     w (length b) (length s)
@@ -40,11 +39,11 @@ module _ (w : Walker) (b s : List ℕ) where
   abbrev R : List ℕ → Given Walked → Type 0
   R p g = AfterWalk w b s p g
 
-  empty_after : resting w.stage ≡ Walks → R [] (keeps b s (stands w More))
+  empty_after : resting w.stage ≡ Ok true → R [] (keeps b s (stands w (Ok More)))
   empty_after walks =
       quiet w b s [] _ refl (omega arith) (λ _ h _. omega arith) (λ j h i e. omega arith) (λ _. omega arith) walks
 
-  refused_after : (p : List ℕ) (x : Refusal) → Bad x ≡ checked_walker w (length b) (length s) → R p (keeps b s (stops_at w x))
+  refused_after : (p : List ℕ) (x : Refusal) → Err x ≡ checked_walker w (length b) (length s) → R p (keeps b s (stops_at w x))
   refused_after p x e =
       let low = low_checks w b s x e in
       quiet w b s p _ refl (omega arith) (λ g _ _. not_refused x (g.fine ∙ sym e)) (λ j h i f. omega (arith, low.0)) low.1 refl
@@ -101,7 +100,7 @@ module _ (w : Walker) (b s : List ℕ) where
       (stage_after x xs a w.stage refl)
 
   -- a walker that is stopped or ended
-  rests_after : (p : List ℕ) (step : Step) → (resting w.stage ≡ Walks → ⊥) → heading w.stage ≡ false → Follows step w
+  rests_after : (p : List ℕ) (step : Result Step Refusal) → (resting w.stage ≡ Ok true → ⊥) → heading w.stage ≡ false → Follows step w
       → R p (keeps b s (stands w step))
   rests_after p step rests h follows =
       record {
@@ -131,10 +130,10 @@ module _ (w : Walker) (b s : List ℕ) where
       by (refused e r c) = rw (walk_stopped w b s (resting w.stage) refl r p e c) (refused_after p e c)
       by (ended t) =
           rw (walk_over w b s p (resting w.stage) refl (ap resting t))
-          (rests_after p End (λ r. let z : Over ≡ Walks = sym (ap resting t) ∙ r in let y : ◌≡◌ {A = ℕ} 0 1 = cc in omega arith) (ap heading t) t)
+          (rests_after p (Ok End) (λ r. let z : Ok false ≡ Ok true = sym (ap resting t) ∙ r in let y : ◌≡◌ {A = ℕ} 0 1 = cc in omega arith) (ap heading t) t)
       by (stopped e t) =
           rw (walk_rests w b s p (resting w.stage) refl e (ap resting t))
-          (rests_after p (Refused e) (λ r. let z : Stays e ≡ Walks = sym (ap resting t) ∙ r in let y : ◌≡◌ {A = ℕ} 0 1 = cc in omega arith) (ap heading t) t)
+          (rests_after p (Err e) (λ r. let z : Err e ≡ Ok true = sym (ap resting t) ∙ r in let y : ◌≡◌ {A = ℕ} 0 1 = cc in omega arith) (ap heading t) t)
 
 -- the end of input
 module _ (w : Walker) (b s : List ℕ) where
@@ -151,7 +150,7 @@ module _ (w : Walker) (b s : List ℕ) where
   no_header : (t : Stage) → w.stage ≡ t → heading t ≡ false → w.stage ≡ Header → ⊥
   no_header t e h f = false≢true (sym h ∙ ap heading (sym e ∙ f))
 
-  stage_end : resting w.stage ≡ Walks → (t : Stage) → w.stage ≡ t → E (stage_ended t w)
+  stage_end : resting w.stage ≡ Ok true → (t : Stage) → w.stage ≡ t → E (stage_ended t w)
   stage_end r Between t = same_end _ refl (λ h _. apart h t) refl
   stage_end r Header t =
       record {
@@ -186,14 +185,14 @@ module _ (w : Walker) (b s : List ℕ) where
           (same_end _ refl (λ h f. no_header (Stopped e) t refl h) t)
 
   -- one that is stopped or ended
-  pub repeats_number : (e : Refusal) → w.stage ≡ Stopped e → Calls w b s (stands w (Refused e))
+  pub repeats_number : (e : Refusal) → w.stage ≡ Stopped e → Calls w b s (stands w (Err e))
   repeats_number e t =
       record {
         walk = λ p. walk_rests w b s p (resting w.stage) refl e (ap resting t);
         end = is_given (end_rests w b s (resting w.stage) refl e (ap resting t));
       }
 
-  pub repeats_end : w.stage ≡ Ended → Calls w b s (stands w End)
+  pub repeats_end : w.stage ≡ Ended → Calls w b s (stands w (Ok End))
   repeats_end t =
       record {
         walk = λ p. walk_over w b s p (resting w.stage) refl (ap resting t);
@@ -201,7 +200,7 @@ module _ (w : Walker) (b s : List ℕ) where
       }
 
   -- one that its first checks refuse
-  pub refused_first : (e : Refusal) → resting w.stage ≡ Walks → Bad e ≡ checked_walker w (length b) (length s) → Calls w b s (stops_at w e)
+  pub refused_first : (e : Refusal) → resting w.stage ≡ Ok true → Err e ≡ checked_walker w (length b) (length s) → Calls w b s (stops_at w e)
   refused_first e r c =
       record {
         walk = λ p. walk_stopped w b s (resting w.stage) refl r p e c;
@@ -209,7 +208,7 @@ module _ (w : Walker) (b s : List ℕ) where
       }
 
   -- an empty piece
-  pub takes_nothing : Goes w b s → walking w b s [] ≡ keeps b s (stands w More)
+  pub takes_nothing : Goes w b s → walking w b s [] ≡ keeps b s (stands w (Ok More))
   takes_nothing g = walk_checked w b s (resting w.stage) refl g.walks [] g.fine ∙ on_empty w b s [] refl
 
   -- a body

@@ -1,4 +1,5 @@
 -- What the page says of a walk by a walker that goes on, by what the walk does. Assumes nothing.
+use Rattle.std.specs.Prelude.{Err, Ok, Result}
 use mathlib.Core.Path.{◌≡◌, refl, sym, ap, ◌∙◌, subst}
 use mathlib.Core.Bool.{true, false, false≢true}
 use mathlib.Core.List.{List, ◌∷◌}
@@ -10,7 +11,6 @@ use Rattle.leaves.specs.Refusals.{number, refusal}
 use Rattle.leaves.specs.declared.refusals.Refusal.{Refusal}
 use Rattle.maps.specs.Maps.{Given}
 use Rattle.maps.specs.Good.{good, checked_reading}
-use Rattle.maps.specs.declared.Checked.TheVariants.{Fine}
 use Rattle.maps.proofs.GoodLaws.{checked_passes}
 use Rattle.reader.specs.Calls.{feeding}
 use Rattle.reader.specs.declared.Fed.{Fed}
@@ -19,8 +19,7 @@ use Rattle.walker.specs.Answers.{told}
 use Rattle.walker.specs.declared.Stage.{Stage}
 use Rattle.walker.specs.declared.Stage.TheVariants.{Between, Header, Stopped}
 use Rattle.walker.specs.declared.Step.{Step}
-use Rattle.walker.specs.declared.Resting.TheVariants.{Walks}
-use Rattle.walker.specs.declared.Step.TheVariants.{More, Refused}
+use Rattle.walker.specs.declared.Step.TheVariants.{More}
 use Rattle.walker.specs.declared.Walker.{Walker}
 use Rattle.walker.specs.declared.Walked.{Walked}
 use Rattle.walker.proofs.WalkLaws.{allowed_is, common_takes, common_stops, common_within, by_trailer}
@@ -121,19 +120,19 @@ module _ (w : Walker) (b s : List ℕ) (x : ℕ) (xs : List ℕ) (g : Given Walk
 
 -- an octet that is too far, where the walker stands
 module _ (w : Walker) (b s : List ℕ) (x : ℕ) (xs : List ℕ) (far : furthest ≤ w.position) where
-  none_taken : (r : Walked) → r.taken ≡ 0 → r.step ≡ Refused (refusal 13) → r.walker.stage ≡ Stopped (refusal 13) → Numbers w (x ∷ xs) r
+  none_taken : (r : Walked) → r.taken ≡ 0 → r.step ≡ Err (refusal 13) → r.walker.stage ≡ Stopped (refusal 13) → Numbers w (x ∷ xs) r
   none_taken r z e t =
       record {
-        follows = subst (λ (u : Step). Follows u r.walker) (sym e) t;
+        follows = subst (λ (u : Result Step Refusal). Follows u r.walker) (sym e) t;
         near = omega arith;
         thirteen = λ _. (omega arith, omega arith);
-        eleven = λ f. let i : told (Refused (refusal 13)) ≡ 11 = sym (ap told e) ∙ f in absurd (omega arith);
+        eleven = λ f. let i : told (Err (refusal 13)) ≡ 11 = sym (ap told e) ∙ f in absurd (omega arith);
       }
 
   pub far_outside : (w.stage ≡ Header → ⊥) → AfterWalk w b s (x ∷ xs) (keeps b s (stops_at w (refusal 13)))
   far_outside no_header = kept w b s (x ∷ xs) _ refl (none_taken _ refl refl refl) (λ _ _ _. refl) (λ h. absurd (no_header h)) (λ _ i. absurd (omega arith))
 
-  pub far_inside : w.stage ≡ Header → Fine ≡ checked_reading w.map b s → AfterWalk w b s (x ∷ xs) (keeps b s (stops_inside w (refusal 13)))
+  pub far_inside : w.stage ≡ Header → Ok tt ≡ checked_reading w.map b s → AfterWalk w b s (x ∷ xs) (keeps b s (stops_inside w (refusal 13)))
   far_inside t fine =
       let e = fed_nothing w.map b s fine in
       in_header w b s x xs _ refl refl (ap heading t) (emptied_good w.map (checked_passes _ w.map (length b) (length s) fine).0) (none_taken _ refl refl refl) (λ _. refl) (λ h. apart t h)
@@ -169,15 +168,15 @@ module _ (w : Walker) (b s p : List ℕ) (past : ℕ) (low : past < 4) (outside 
   no_between : w.stage ≡ Between → ⊥
   no_between e = false≢true (sym outside ∙ ap heading e)
 
-  walks_on : (t : Stage) → resting t ≡ Walks → (0 < length p → furthest ≤ w.position → ⊥) → T (onward w t same More)
+  walks_on : (t : Stage) → resting t ≡ Ok true → (0 < length p → furthest ≤ w.position → ⊥) → T (onward w t same (Ok More))
   walks_on t walks near =
       quiet w b s p _ refl (omega (arith, within, k_is)) (λ _. near) (λ j h i e. omega arith) (λ _. omega arith) walks
 
   -- a number that stops the walker in the trailer
-  stopping : (x : Refusal) → (furthest ≤ w.position → number x ≡ 13) → Numbers w p (onward w (Stopped x) same (Refused x)) → T (onward w (Stopped x) same (Refused x))
+  stopping : (x : Refusal) → (furthest ≤ w.position → number x ≡ 13) → Numbers w p (onward w (Stopped x) same (Err x)) → T (onward w (Stopped x) same (Err x))
   stopping x first n = kept w b s p _ refl n (λ _ _ f. first f) (λ h. absurd (no_header h)) (λ h _. absurd (no_between h))
 
-  differs : (past + same ≡ 4 → ⊥) → same < k → T (onward w (Stopped (refusal 11)) same (Refused (refusal 11)))
+  differs : (past + same ≡ 4 → ⊥) → same < k → T (onward w (Stopped (refusal 11)) same (Err (refusal 11)))
   differs d i =
       stopping (refusal 11) (λ f. absurd (omega (arith, k_is)))
       (record {
@@ -200,7 +199,7 @@ module _ (w : Walker) (b s p : List ℕ) (past : ℕ) (low : past < 4) (outside 
       shorter : same < length (drop past trailer)
       shorter = omega (arith, (common_within (drop past trailer) (take k p)).0, length-drop past trailer, d)
 
-  too_far : k ≤ same → k < length p → T (onward w (Stopped (refusal 13)) same (Refused (refusal 13)))
+  too_far : k ≤ same → k < length p → T (onward w (Stopped (refusal 13)) same (Err (refusal 13)))
   too_far i j =
       stopping (refusal 13) (λ _. refl)
       (record {

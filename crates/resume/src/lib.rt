@@ -4,9 +4,8 @@
 ghost use Rattle.std.specs.Prelude.{◌≡◌};
 ghost use Rattle.resume.specs.Resume.{is_partial, tagged, resuming};
 
-use codes::line::Code;
 use leaves::refusals::Refusal;
-use maps::{Checked, HeaderMap};
+use maps::HeaderMap;
 
 #[derive(Clone, Copy)]
 pub enum Verdict {
@@ -14,32 +13,31 @@ pub enum Verdict {
     NoTag,
     Differ,
     NotPartial,
-    Refused(Refusal),
 }
 
-fn is_partial(code: Code) -> bool
+fn is_partial(code: Result<Option<u16>, Refusal>) -> bool
     ensures { result ≡ is_partial code }
 {
     match code {
-        Code::Known(n) => n == 206,
-        Code::None => false,
-        Code::Refused(x) => false,
+        Ok(Some(n)) => n == 206,
+        Ok(None) => false,
+        Err(x) => false,
     }
 }
 
-fn compare_tags(x: &[u8], y: &[u8]) -> Verdict
+fn compare_tags(x: &[u8], y: &[u8]) -> Result<Verdict, Refusal>
     ensures { result ≡ tagged x.now y.now }
 {
     if x.len() == 0 {
-        return Verdict::NoTag;
+        return Ok(Verdict::NoTag);
     }
     if y.len() == 0 {
-        return Verdict::NoTag;
+        return Ok(Verdict::NoTag);
     }
     if equals::same_octets(x, y) {
-        return Verdict::Append;
+        return Ok(Verdict::Append);
     }
-    Verdict::Differ
+    Ok(Verdict::Differ)
 }
 
 // The first map, with its block b and its store s, is checked whole before the second.
@@ -50,27 +48,27 @@ pub fn resume<'a>(
     k: HeaderMap,
     c: &'a [u8],
     z: &'a [u8],
-) -> Verdict
+) -> Result<Verdict, Refusal>
     ensures { result ≡ resuming m b.now s.now k c.now z.now }
 {
     let one = maps::check_done(m, b, s);
     match one {
-        Checked::Fine => {
+        Ok(()) => {
             let two = maps::check_done(k, c, z);
             match two {
-                Checked::Fine => {
+                Ok(()) => {
                     let code = codes::status_code(k, c, z);
                     if is_partial(code) {
                         let x = singles::only_value(m, b, s, b"ETag");
                         let y = singles::only_value(k, c, z, b"ETag");
                         compare_tags(x, y)
                     } else {
-                        Verdict::NotPartial
+                        Ok(Verdict::NotPartial)
                     }
                 }
-                Checked::Refused(x) => Verdict::Refused(x),
+                Err(x) => Err(x),
             }
         }
-        Checked::Refused(x) => Verdict::Refused(x),
+        Err(x) => Err(x),
     }
 }

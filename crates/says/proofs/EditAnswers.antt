@@ -1,4 +1,5 @@
 -- The laws of the edits: when one is done or refused, what it puts into the store, what it leaves of map and loans. Assumes nothing.
+use Rattle.std.specs.Prelude.{Err, Ok}
 use mathlib.Core.Path.{◌≡◌, refl, sym, ap, ◌∙◌}
 use mathlib.Core.Bool.{true, false}
 use mathlib.Core.List.{List, [], ◌∷◌, ◌++◌}
@@ -14,12 +15,10 @@ use Rattle.maps.specs.Good.{live, checked_done}
 use Rattle.maps.specs.Maps.{Given}
 use Rattle.maps.specs.Said.{Said, pair_at, saying}
 use Rattle.maps.specs.declared.Field.{Field}
-use Rattle.maps.specs.declared.Checked.TheVariants.{Fine, Refused as Bad}
 use Rattle.maps.specs.declared.HeaderMap.{HeaderMap}
 use Rattle.maps.proofs.GoodLaws.{ready_of}
 use Rattle.maps.proofs.SaidLaws.{said_is}
 use Rattle.lookups.specs.Lookups.{named}
-use Rattle.edits.specs.declared.Edit.TheVariants.{Done, Refused}
 use Rattle.edits.specs.declared.Edited.{Edited}
 use Rattle.edits.specs.Fields.{replaced}
 use Rattle.edits.specs.Edits.{remade, new_field, refusing, leaving}
@@ -33,7 +32,7 @@ pairs_live : (m : HeaderMap) (b s : List ℕ) → length (saying m b s).pairs �
 pairs_live m b s = ap (λ (x : Said). length x.pairs) (said_is m b s) ∙ length-map (live m) (pair_at b s)
 
 module _ (m : HeaderMap) (b s : List ℕ) where
-  module _ (fine : Fine ≡ checked_done m b s) where
+  module _ (fine : Ok tt ≡ checked_done m b s) where
     made_pairs : (a : Ask) → length (ask_said a (saying m b s)).pairs ≡ length (live (made_by a m b s))
     made_pairs a =
         ap (λ (x : Said). length x.pairs) (sym (says_by m b s a fine)) ∙ pairs_live (made_by a m b s) b (pasted s m.mark (ask_text a))
@@ -60,18 +59,18 @@ module _ (m : HeaderMap) (b s : List ℕ) where
     few_fields (ask_status t) h = (ready_of _ m b s fine).few
 
     -- 5, then 6, else it is done
-    pub ask_over : (a : Ask) → 256 < length (ask_said a (saying m b s)).pairs → (asked a m b s).result.answer ≡ Refused (refusal 5)
+    pub ask_over : (a : Ask) → 256 < length (ask_said a (saying m b s)).pairs → (asked a m b s).result.answer ≡ Err (refusal 5)
     ask_over a h = let l : 256 < (made_by a m b s).fields = omega (arith, most_fields a) in over_of fine (ask_outcome m b s a) l
 
     pub ask_full : (a : Ask) → length (ask_said a (saying m b s)).pairs ≤ 256 → m.room < m.mark + length (ask_text a)
-        → (asked a m b s).result.answer ≡ Refused (refusal 6)
+        → (asked a m b s).result.answer ≡ Err (refusal 6)
     ask_full a h k = full_of fine (ask_outcome m b s a) (few_fields a h) k
 
     pub ask_done : (a : Ask) → length (ask_said a (saying m b s)).pairs ≤ 256 → m.mark + length (ask_text a) ≤ m.room
-        → (asked a m b s).result.answer ≡ Done
+        → (asked a m b s).result.answer ≡ Ok tt
     ask_done a h k = done_of fine (ask_outcome m b s a) (few_fields a h) k
 
-    pub remove_done : (k : List ℕ) → (asked (ask_remove k) m b s).result.answer ≡ Done
+    pub remove_done : (k : List ℕ) → (asked (ask_remove k) m b s).result.answer ≡ Ok tt
     remove_done k =
         let l : m.mark + 0 ≤ m.room = omega (arith, (ready_of _ m b s fine).mark) in
         done_of fine (ask_outcome m b s (ask_remove k)) (remove_few k) l
@@ -86,13 +85,13 @@ module _ (m : HeaderMap) (b s : List ℕ) where
     marked_by (ask_status t) e = refl
 
   -- an edit that 3, 2 or 7 refuse; a refused edit leaves all
-  pub ask_refused : (a : Ask) (x : Refusal) → Bad x ≡ checked_done m b s → asked a m b s ≡ refusing m b s x
+  pub ask_refused : (a : Ask) (x : Refusal) → Err x ≡ checked_done m b s → asked a m b s ≡ refusing m b s x
   ask_refused a x e = refused_of (ask_outcome m b s a) x e
 
-  pub ask_left : (a : Ask) (x : Refusal) → (asked a m b s).result.answer ≡ Refused x → asked a m b s ≡ refusing m b s x
+  pub ask_left : (a : Ask) (x : Refusal) → (asked a m b s).result.answer ≡ Err x → asked a m b s ≡ refusing m b s x
   ask_left a x e = left_of (ask_outcome m b s a) x e
 
-  module _ (a : Ask) (e : (asked a m b s).result.answer ≡ Done) where
+  module _ (a : Ask) (e : (asked a m b s).result.answer ≡ Ok tt) where
     pub ask_store : (asked a m b s).store ≡ pasted s m.mark (ask_text a)
     ask_store = ap (λ (g : Given Edited). g.store) (ask_made m b s a e).is
 
@@ -112,7 +111,7 @@ module _ (m : HeaderMap) (b s : List ℕ) where
   mark_by (ask_status t) = refl
 
   -- "Its store mark grows by the lengths that edits .. add."
-  pub ask_mark : (a : Ask) → (asked a m b s).result.answer ≡ Done → (asked a m b s).result.map.mark ≡ m.mark + length (ask_text a)
+  pub ask_mark : (a : Ask) → (asked a m b s).result.answer ≡ Ok tt → (asked a m b s).result.map.mark ≡ m.mark + length (ask_text a)
   ask_mark a e = ap (λ (n : HeaderMap). n.mark) (made_map_lem a e) ∙ mark_by a
 
   rest_by : (a : Ask) (n : HeaderMap) → n ≡ made_by a m b s → n ≡ remade m n.table n.fields n.status n.mark n.edited
@@ -122,6 +121,6 @@ module _ (m : HeaderMap) (b s : List ℕ) where
   rest_by (ask_status t) n e = rw e refl
 
   -- nothing else of the map changes
-  pub ask_rest : (a : Ask) → (asked a m b s).result.answer ≡ Done → (n : HeaderMap) → n ≡ (asked a m b s).result.map
+  pub ask_rest : (a : Ask) → (asked a m b s).result.answer ≡ Ok tt → (n : HeaderMap) → n ≡ (asked a m b s).result.map
       → n ≡ remade m n.table n.fields n.status n.mark n.edited
   ask_rest a e n h = rest_by a n (h ∙ made_map_lem a e)

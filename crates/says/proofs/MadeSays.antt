@@ -1,4 +1,5 @@
 -- What a map says once a text stands at the mark of its store and it has other fields or another status. Assumes nothing.
+use Rattle.std.specs.Prelude.{Ok}
 use mathlib.Core.Path.{◌≡◌, sym, ap, ◌∙◌}
 use mathlib.Core.Bool.{Bool}
 use mathlib.Core.List.{List, [], ◌∷◌, ◌++◌, map, map-append, append-nil}
@@ -11,7 +12,6 @@ use Rattle.leaves.proofs.LayLaws.{lay_take}
 use Rattle.maps.specs.Places.{part}
 use Rattle.maps.specs.Good.{live, checked_done}
 use Rattle.maps.specs.declared.Field.{Field}
-use Rattle.maps.specs.declared.Checked.TheVariants.{Fine}
 use Rattle.maps.specs.declared.HeaderMap.{HeaderMap}
 use Rattle.maps.proofs.GoodLaws.{ready_of}
 use Rattle.maps.specs.Said.{Pair, pair_at, status_at, saying, called}
@@ -24,7 +24,7 @@ use Rattle.edits.proofs.FieldLaws.{keeps_map, replaced_map}
 use Rattle.says.specs.Says.{pair, set_said, append_said, remove_said, status_said}
 use Rattle.says.proofs.KeptLaws.{text_at, status_kept, pairs_kept}
 
-module _ (m : HeaderMap) (b s : List ℕ) (fine : Fine ≡ checked_done m b s) where
+module _ (m : HeaderMap) (b s : List ℕ) (fine : Ok tt ≡ checked_done m b s) where
   stored : m.mark ≤ length s
   stored = let w = ready_of _ m b s fine in omega (arith, w.mark, w.store)
 

@@ -1,14 +1,12 @@
 -- The edits and the lookups at the level of what a map says. Assumes nothing.
-use Rattle.std.specs.Prelude.{Bool, true, false, ◌||◌, List, [], ◌∷◌, ◌++◌, ℕ, ltb, length, drop}
-use Rattle.std.proofs.Math.Option.{some}
+use Rattle.leaves.specs.declared.refusals.Refusal.{Refusal}
+use Rattle.std.specs.Prelude.{Bool, true, false, ◌||◌, List, [], ◌∷◌, ◌++◌, ℕ, ltb, length, drop, Option, Result, Some, ⊤}
 use Rattle.leaves.specs.Sanitise.{sanitised}
 use Rattle.maps.specs.Good.{checked_done}
 use Rattle.maps.specs.Maps.{Given}
-use Rattle.maps.specs.declared.Checked.{Checked}
 use Rattle.maps.specs.declared.HeaderMap.{HeaderMap}
 use Rattle.maps.specs.Said.{Pair, Said, called, saying}
 use Rattle.lookups.specs.Lookups.{seeking}
-use Rattle.lookups.specs.declared.Found.{Found}
 use Rattle.edits.specs.Fields.{keeps, replaced}
 use Rattle.edits.specs.Edits.{setting, appending, removing, statusing}
 use Rattle.edits.specs.declared.Edited.{Edited}
@@ -29,7 +27,7 @@ abbrev pub remove_said : List ℕ → Said → Said
 remove_said k x = record { status = x.status; pairs = keeps (called k) x.pairs }
 
 abbrev pub status_said : List ℕ → Said → Said
-status_said t x = record { status = some t; pairs = x.pairs }
+status_said t x = record { status = Some t; pairs = x.pairs }
 
 -- an edit as it is asked for, with the texts that were given
 pub data Ask : Type 0 where
@@ -67,12 +65,12 @@ marked (ask_remove key) edited x = edited || ltb (length (remove_said (sanitised
 marked (ask_status text) edited x = true
 
 -- "A lookup from a given field number on gives missing or a field number."
-abbrev pub find_said : List ℕ → ℕ → Said → Found
+abbrev pub find_said : List ℕ → ℕ → Said → Result (Option ℕ) Refusal
 find_said name from x = seeking (called name) from (drop from x.pairs)
 
 -- what the map of an edit says then, and what the next call's first checks say of it
 abbrev pub after : Given Edited → Said
 after g = saying g.result.map g.block g.store
 
-abbrev pub usable : Given Edited → Checked
+abbrev pub usable : Given Edited → Result ⊤ Refusal
 usable g = checked_done g.result.map g.block g.store

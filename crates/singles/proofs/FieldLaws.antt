@@ -1,8 +1,8 @@
 -- The fields of a name: what two lookups tell of them. Assumes nothing.
+use Rattle.std.specs.Prelude.{Err, None, Ok, Option, Result, Some, ⊤}
 use mathlib.Core.Path.{◌≡◌, refl, sym, ap, ◌∙◌}
 use mathlib.Core.Bool.{Bool, true, false}
 use mathlib.Core.List.{List, [], ◌∷◌, map}
-use mathlib.Core.Option.{Option}
 use Prim.Native.Nat.{ℕ, suc, ◌+◌, ◌≤◌, ◌<◌}
 use native.Mathlib.Omega.{arith}
 use native.Mathlib.Numerals.{add-one}
@@ -14,14 +14,10 @@ use Rattle.leaves.specs.declared.refusals.Refusal.{Refusal}
 use Rattle.maps.specs.Places.{at, no_field}
 use Rattle.maps.specs.Good.{live, checked_done}
 use Rattle.maps.specs.declared.Field.{Field}
-use Rattle.maps.specs.declared.Checked.{Checked}
-use Rattle.maps.specs.declared.Checked.TheVariants.{Fine, Refused as Bad}
 use Rattle.maps.specs.declared.HeaderMap.{HeaderMap}
 use Rattle.maps.proofs.GoodLaws.{ready_of, goes_on, refused_by}
 use Rattle.maps.specs.Said.{pair_at, saying}
 use Rattle.lookups.specs.Lookups.{named, seeking, finding, value_in, value_place, handed_out}
-use Rattle.lookups.specs.declared.Found.{Found}
-use Rattle.lookups.specs.declared.Found.TheVariants.{Nth, Missing, Refused}
 use Rattle.lookups.proofs.SeekLaws.{find_fine, find_refused}
 use Rattle.lookups.proofs.HandLaws.{slot_fine}
 use Rattle.singles.specs.Single.{values_of, only_of, only_value, single}
@@ -46,7 +42,7 @@ module _ (b s name : List ℕ) where
     unfolding values_of named when◌then◌else◌
     values_skip e = rw e
 
-    seek_at : (n : ℕ) → named b s name x ≡ true → seeking (named b s name) n (x ∷ xs) ≡ Nth n
+    seek_at : (n : ℕ) → named b s name x ≡ true → seeking (named b s name) n (x ∷ xs) ≡ Ok (Some n)
     unfolding seeking when◌then◌else◌
     seek_at n e = rw e
 
@@ -58,23 +54,23 @@ module _ (b s name : List ℕ) where
   unfolding values_of
   no_values = refl
 
-  seek_none : (n : ℕ) → seeking (named b s name) n [] ≡ Missing
+  seek_none : (n : ℕ) → seeking (named b s name) n [] ≡ Ok None
   unfolding seeking
   seek_none n = refl
 
-  missing_none : (n : ℕ) (xs : List Field) → seeking (named b s name) n xs ≡ Missing → worth b s name xs ≡ []
+  missing_none : (n : ℕ) (xs : List Field) → seeking (named b s name) n xs ≡ Ok None → worth b s name xs ≡ []
   missing_none n [] e = no_values
   missing_none n (x ∷ xs) e = choose (named b s name x) refl (λ h. missing_none (n + 1) xs h)
     where
-      choose : (t : Bool) → named b s name x ≡ t → (seeking (named b s name) (n + 1) xs ≡ Missing → worth b s name xs ≡ []) → worth b s name (x ∷ xs) ≡ []
+      choose : (t : Bool) → named b s name x ≡ t → (seeking (named b s name) (n + 1) xs ≡ Ok None → worth b s name xs ≡ []) → worth b s name (x ∷ xs) ≡ []
       choose true f ih = clash (cc (seek_at x xs n f))
       choose false f ih = values_skip x xs f ∙ ih (sym (seek_on x xs n f) ∙ e)
 
-  found_hit : (n i : ℕ) (xs : List Field) → seeking (named b s name) n xs ≡ Nth i → Hit b s name n i xs
+  found_hit : (n i : ℕ) (xs : List Field) → seeking (named b s name) n xs ≡ Ok (Some i) → Hit b s name n i xs
   found_hit n i [] e = clash (cc (seek_none n))
   found_hit n i (x ∷ xs) e = choose (named b s name x) refl (λ h. found_hit (n + 1) i xs h)
     where
-      choose : (t : Bool) → named b s name x ≡ t → (seeking (named b s name) (n + 1) xs ≡ Nth i → Hit b s name (n + 1) i xs) → Hit b s name n i (x ∷ xs)
+      choose : (t : Bool) → named b s name x ≡ t → (seeking (named b s name) (n + 1) xs ≡ Ok (Some i) → Hit b s name (n + 1) i xs) → Hit b s name n i (x ∷ xs)
       choose true f ih =
           let z : n ≡ i = cc (seek_at x xs n f) in
           record { index = 0; is = omega arith; inside = omega arith; values = values_hit x xs f }
@@ -84,11 +80,11 @@ module _ (b s name : List ℕ) where
           let y : h.index < length xs = h.inside in
           record { index = suc h.index; is = omega arith; inside = omega arith; values = values_skip x xs f ∙ h.values }
 
-  seek_refused : {A : Type 0} (xs : List Field) (n : ℕ) (r : Refusal) → seeking (named b s name) n xs ≡ Refused r → A
+  seek_refused : {A : Type 0} (xs : List Field) (n : ℕ) (r : Refusal) → seeking (named b s name) n xs ≡ Err r → A
   seek_refused [] n r e = clash (cc (seek_none n))
   seek_refused {A} (x ∷ xs) n r e = choose (named b s name x) refl (λ h. seek_refused xs (n + 1) r h)
     where
-      choose : (t : Bool) → named b s name x ≡ t → (seeking (named b s name) (n + 1) xs ≡ Refused r → A) → A
+      choose : (t : Bool) → named b s name x ≡ t → (seeking (named b s name) (n + 1) xs ≡ Err r → A) → A
       choose true f ih = clash (cc (seek_at x xs n f))
       choose false f ih = ih (sym (seek_on x xs n f) ∙ e)
 
@@ -99,8 +95,8 @@ module _ (b s name : List ℕ) where
       let z : h.index ≡ j = omega arith in
       (rw z at h.inside, rw z at h.values)
 
-module _ (m : HeaderMap) (b s name : List ℕ) (e : Fine ≡ checked_done m b s) where
-  first_hit : (i : ℕ) → finding m b s name 0 ≡ Nth i
+module _ (m : HeaderMap) (b s name : List ℕ) (e : Ok tt ≡ checked_done m b s) where
+  first_hit : (i : ℕ) → finding m b s name 0 ≡ Ok (Some i)
       → (i < length (live m)) × (worth b s name (live m) ≡ at b s (get_or (live m) i no_field).value ∷ worth b s name (drop (suc i) (live m)))
   first_hit i f = hit_values b s name 0 i i (live m) (found_hit b s name 0 i (live m) (sym (find_fine m b s name 0 e) ∙ f)) (omega arith)
 
@@ -110,16 +106,16 @@ module _ (m : HeaderMap) (b s name : List ℕ) (e : Fine ≡ checked_done m b s)
   within : (i : ℕ) → i < length (live m) → i < m.fields
   within i h = omega (arith, h, length-take m.fields m.table)
 
-  small : (i : ℕ) → finding m b s name 0 ≡ Nth i → i < 256
+  small : (i : ℕ) → finding m b s name 0 ≡ Ok (Some i) → i < 256
   small i f = let h = (first_hit i f).0 in let k = few in omega arith
 
-  pub never_refused : {A : Type 0} (from : ℕ) (x : Refusal) → finding m b s name from ≡ Refused x → A
+  pub never_refused : {A : Type 0} (from : ℕ) (x : Refusal) → finding m b s name from ≡ Err x → A
   never_refused from x f = seek_refused b s name (drop from (live m)) from x (sym (find_fine m b s name from e) ∙ f)
 
-  values_none : finding m b s name 0 ≡ Missing → worth b s name (live m) ≡ []
+  values_none : finding m b s name 0 ≡ Ok None → worth b s name (live m) ≡ []
   values_none f = missing_none b s name 0 (live m) (sym (find_fine m b s name 0 e) ∙ f)
 
-  rest_of : (i : ℕ) (f : Found) → finding m b s name (i + 1) ≡ f → seeking (named b s name) (suc i) (drop (suc i) (live m)) ≡ f
+  rest_of : (i : ℕ) (f : Result (Option ℕ) Refusal) → finding m b s name (i + 1) ≡ f → seeking (named b s name) (suc i) (drop (suc i) (live m)) ≡ f
   rest_of i f g = rw add-one at (sym (find_fine m b s name (i + 1) e) ∙ g)
 
   -- the value that a lookup hands out for a field that it found
@@ -132,68 +128,68 @@ module _ (m : HeaderMap) (b s name : List ℕ) (e : Fine ≡ checked_done m b s)
   unfolding saying
   said_values vs h = h
 
-  pub values_missing : finding m b s name 0 ≡ Missing → values_of name (saying m b s).pairs ≡ []
+  pub values_missing : finding m b s name 0 ≡ Ok None → values_of name (saying m b s).pairs ≡ []
   values_missing f = said_values [] (values_none f)
 
-  pub values_found : (i : ℕ) → finding m b s name 0 ≡ Nth i
+  pub values_found : (i : ℕ) → finding m b s name 0 ≡ Ok (Some i)
       → values_of name (saying m b s).pairs ≡ handed_out b s (value_place m b s i) ∷ worth b s name (drop (suc i) (live m))
   values_found i f =
       let h = first_hit i f in
       said_values _ (h.1 ∙ ap (λ (v : List ℕ). v ∷ worth b s name (drop (suc i) (live m))) (sym (handed_is i h.0)))
 
-  only_missing : finding m b s name 0 ≡ Missing → [] ≡ only_value name (saying m b s)
+  only_missing : finding m b s name 0 ≡ Ok None → [] ≡ only_value name (saying m b s)
   only_missing f = sym (ap only_of (values_missing f))
 
-  only_found : (i : ℕ) → finding m b s name 0 ≡ Nth i → finding m b s name (i + 1) ≡ Missing
+  only_found : (i : ℕ) → finding m b s name 0 ≡ Ok (Some i) → finding m b s name (i + 1) ≡ Ok None
       → (v : List ℕ) → v ≡ handed_out b s (value_place m b s i) → v ≡ only_value name (saying m b s)
   only_found i f g v h =
-      let r : worth b s name (drop (suc i) (live m)) ≡ [] = missing_none b s name (suc i) (drop (suc i) (live m)) (rest_of i Missing g) in
+      let r : worth b s name (drop (suc i) (live m)) ≡ [] = missing_none b s name (suc i) (drop (suc i) (live m)) (rest_of i (Ok None) g) in
       h ∙ sym (ap only_of (values_found i f ∙ ap (λ (vs : List (List ℕ)). handed_out b s (value_place m b s i) ∷ vs) r))
 
-  only_again : (i j : ℕ) → finding m b s name 0 ≡ Nth i → finding m b s name (i + 1) ≡ Nth j → [] ≡ only_value name (saying m b s)
+  only_again : (i j : ℕ) → finding m b s name 0 ≡ Ok (Some i) → finding m b s name (i + 1) ≡ Ok (Some j) → [] ≡ only_value name (saying m b s)
   only_again i j f g =
-      let h = found_hit b s name (suc i) j (drop (suc i) (live m)) (rest_of i (Nth j) g) in
+      let h = found_hit b s name (suc i) j (drop (suc i) (live m)) (rest_of i (Ok (Some j)) g) in
       sym (ap only_of (values_found i f ∙ ap (λ (vs : List (List ℕ)). handed_out b s (value_place m b s i) ∷ vs) h.values))
 
 module _ (m : HeaderMap) (b s name : List ℕ) where
-  pub single_is : Fine ≡ checked_done m b s → single m b s name ≡ only_value name (saying m b s)
+  pub single_is : Ok tt ≡ checked_done m b s → single m b s name ≡ only_value name (saying m b s)
   unfolding single
   single_is e = goes_on (λ (x : Refusal). []) _ _ e
 
-  single_none : (x : Refusal) → Bad x ≡ checked_done m b s → single m b s name ≡ []
+  single_none : (x : Refusal) → Err x ≡ checked_done m b s → single m b s name ≡ []
   unfolding single
   single_none x e = refused_by (λ (x : Refusal). []) _ _ x e
 
   -- a lookup that is not refused looked at a map that can be looked at
-  fine_by : (from : ℕ) (f : Found) → finding m b s name from ≡ f → ((x : Refusal) → f ≡ Refused x → ⊥) → Fine ≡ checked_done m b s
+  fine_by : (from : ℕ) (f : Result (Option ℕ) Refusal) → finding m b s name from ≡ f → ((x : Refusal) → f ≡ Err x → ⊥) → Ok tt ≡ checked_done m b s
   fine_by from f g never = by (checked_done m b s) refl
     where
-      by : (c : Checked) → c ≡ checked_done m b s → Fine ≡ checked_done m b s
-      by Fine e = e
-      by (Bad x) e = absurd (never x (sym g ∙ find_refused m b s name from x e))
+      by : (c : Result ⊤ Refusal) → c ≡ checked_done m b s → Ok tt ≡ checked_done m b s
+      by (Ok tt) e = e
+      by (Err x) e = absurd (never x (sym g ∙ find_refused m b s name from x e))
 
-  found_fine : (from i : ℕ) → finding m b s name from ≡ Nth i → Fine ≡ checked_done m b s
-  found_fine from i f = fine_by from (Nth i) f (λ x e. clash (cc))
+  found_fine : (from i : ℕ) → finding m b s name from ≡ Ok (Some i) → Ok tt ≡ checked_done m b s
+  found_fine from i f = fine_by from (Ok (Some i)) f (λ x e. clash (cc))
 
-  missing_fine : (from : ℕ) → finding m b s name from ≡ Missing → Fine ≡ checked_done m b s
-  missing_fine from f = fine_by from Missing f (λ x e. clash (cc))
+  missing_fine : (from : ℕ) → finding m b s name from ≡ Ok None → Ok tt ≡ checked_done m b s
+  missing_fine from f = fine_by from (Ok None) f (λ x e. clash (cc))
 
-  pub found_small : (i : ℕ) → finding m b s name 0 ≡ Nth i → i < 256
+  pub found_small : (i : ℕ) → finding m b s name 0 ≡ Ok (Some i) → i < 256
   found_small i f = small m b s name (found_fine 0 i f) i f
 
-  pub none_missing : finding m b s name 0 ≡ Missing → [] ≡ single m b s name
+  pub none_missing : finding m b s name 0 ≡ Ok None → [] ≡ single m b s name
   none_missing f = let e = missing_fine 0 f in only_missing m b s name e f ∙ sym (single_is e)
 
-  pub one_found : (i : ℕ) → finding m b s name 0 ≡ Nth i → finding m b s name (i + 1) ≡ Missing
+  pub one_found : (i : ℕ) → finding m b s name 0 ≡ Ok (Some i) → finding m b s name (i + 1) ≡ Ok None
       → (v : List ℕ) → v ≡ handed_out b s (value_place m b s i) → v ≡ single m b s name
   one_found i f g v h = let e = found_fine 0 i f in only_found m b s name e i f g v h ∙ sym (single_is e)
 
-  pub none_again : (i j : ℕ) → finding m b s name 0 ≡ Nth i → finding m b s name (i + 1) ≡ Nth j → [] ≡ single m b s name
+  pub none_again : (i j : ℕ) → finding m b s name 0 ≡ Ok (Some i) → finding m b s name (i + 1) ≡ Ok (Some j) → [] ≡ single m b s name
   none_again i j f g = let e = found_fine 0 i f in only_again m b s name e i j f g ∙ sym (single_is e)
 
-  pub none_refused : (from : ℕ) (x : Refusal) → finding m b s name from ≡ Refused x → [] ≡ single m b s name
+  pub none_refused : (from : ℕ) (x : Refusal) → finding m b s name from ≡ Err x → [] ≡ single m b s name
   none_refused from x f = by (checked_done m b s) refl
     where
-      by : (c : Checked) → c ≡ checked_done m b s → [] ≡ single m b s name
-      by Fine e = never_refused m b s name e from x f
-      by (Bad y) e = sym (single_none y e)
+      by : (c : Result ⊤ Refusal) → c ≡ checked_done m b s → [] ≡ single m b s name
+      by (Ok tt) e = never_refused m b s name e from x f
+      by (Err y) e = sym (single_none y e)

@@ -3,8 +3,8 @@
 
 ghost use Rattle.std.specs.Prelude.{◌<◌, ◌≤◌};
 
+use leaves::refusals::Refusal;
 use line_reader::Answer;
-use lookups::Found;
 use maps::HeaderMap;
 use reader::Fed;
 
@@ -22,7 +22,7 @@ pub extern "C" fn speed_read(
     let mut f = Fed {
         map,
         taken: 0,
-        answer: Answer::More,
+        answer: Ok(Answer::More),
     };
     let mut at = 0;
     let mut i = 0;
@@ -72,16 +72,16 @@ fn map_of(block: &mut [u8], store: &mut [u8], text: &[u8]) -> HeaderMap {
     fed.map
 }
 
-fn length_found<'a>(found: Found, m: HeaderMap, block: &'a [u8], store: &'a [u8]) -> usize
+fn length_found<'a>(found: Result<Option<usize>, Refusal>, m: HeaderMap, block: &'a [u8], store: &'a [u8]) -> usize
     ensures { result < 1024 }
 {
     match found {
-        Found::Nth(i) => {
+        Ok(Some(i)) => {
             let v = lookups::value(m, block, store, i);
             v.len() % 1024
         }
-        Found::Missing => 0,
-        Found::Refused(e) => 0,
+        Ok(None) => 0,
+        Err(e) => 0,
     }
 }
 

@@ -1,8 +1,8 @@
 -- What the clean test gives, case by case. Assumes nothing.
+use Rattle.std.specs.Prelude.{Err, None, Ok, Option, Some}
 use mathlib.Core.Path.{◌≡◌, sym}
 use mathlib.Core.Bool.{Bool, true, false, ◌&&◌}
 use mathlib.Core.List.{List, map}
-use mathlib.Core.Option.{some}
 use Prim.Native.Nat.{ℕ, ◌+◌, ◌≤◌, ◌<◌}
 use lib.ListN.{length, get_or, take, drop}
 use Rattle.leaves.proofs.ChoiceLaws.{and_false}
@@ -11,24 +11,20 @@ use Rattle.maps.specs.Places.{at, no_field}
 use Rattle.maps.specs.Good.{checked_done, live}
 use Rattle.maps.specs.declared.Field.{Field}
 use Rattle.maps.specs.declared.Place.{Place}
-use Rattle.maps.specs.declared.Status.{Status}
-use Rattle.maps.specs.declared.Status.TheVariants.{Absent, At}
 use Rattle.maps.specs.declared.HeaderMap.{HeaderMap}
-use Rattle.maps.specs.declared.Checked.TheVariants.{Fine, Refused as Bad}
 use Rattle.maps.specs.Said.{pair_at, status_at}
 use Rattle.maps.proofs.SaidLaws.{said_is}
 use Rattle.lookups.proofs.SeekLaws.{live_cons, live_end}
 use Rattle.rebuilds.specs.Clean.{clean_pair, clean_pairs, clean_status, clean}
-use Rattle.tidy.specs.declared.Test.TheVariants.{Yes, No, Refused}
 use Rattle.tidy.specs.Calls.{answer, cleaning}
 
 module _ (b s : List ℕ) where
   -- the status
-  pub status_none : (x : Status) → x ≡ Absent → true ≡ clean_status (status_at b s x)
+  pub status_none : (x : Option Place) → x ≡ None → true ≡ clean_status (status_at b s x)
   unfolding clean_status
   status_none x e = rw e
 
-  pub status_some : (x : Status) (p : Place) (k : List ℕ) (r : Bool) → x ≡ At p → k ≡ at b s p → r ≡ clean_status (some k) → r ≡ clean_status (status_at b s x)
+  pub status_some : (x : Option Place) (p : Place) (k : List ℕ) (r : Bool) → x ≡ Some p → k ≡ at b s p → r ≡ clean_status (Some k) → r ≡ clean_status (status_at b s x)
   status_some x p k r e f h = rw (e, ← f) h
 
   -- the fields from i on
@@ -53,20 +49,20 @@ module _ (b s : List ℕ) where
 
 -- by cases of the call
 module _ (m : HeaderMap) (b s : List ℕ) where
-  pub clean_refused : (x : Refusal) → Bad x ≡ checked_done m b s → Refused x ≡ cleaning m b s
+  pub clean_refused : (x : Refusal) → Err x ≡ checked_done m b s → Err x ≡ cleaning m b s
   unfolding cleaning
   clean_refused x e = rw (sym e)
 
-  module _ (e : Fine ≡ checked_done m b s) where
+  module _ (e : Ok tt ≡ checked_done m b s) where
     by : (t : Bool) → (clean_status (status_at b s m.status) && clean_pairs (map (pair_at b s) (live m))) ≡ t → answer t ≡ cleaning m b s
     unfolding cleaning clean
     by t h = rw (sym e, said_is m b s, h)
 
-    pub clean_yes : clean_status (status_at b s m.status) ≡ true → clean_pairs (map (pair_at b s) (take m.fields m.table)) ≡ true → Yes ≡ cleaning m b s
+    pub clean_yes : clean_status (status_at b s m.status) ≡ true → clean_pairs (map (pair_at b s) (take m.fields m.table)) ≡ true → Ok true ≡ cleaning m b s
     clean_yes f g = by true (rw (f, g))
 
-    pub fields_not : clean_pairs (map (pair_at b s) (take m.fields m.table)) ≡ false → No ≡ cleaning m b s
+    pub fields_not : clean_pairs (map (pair_at b s) (take m.fields m.table)) ≡ false → Ok false ≡ cleaning m b s
     fields_not g = by false (and_false (clean_status (status_at b s m.status)) _ g)
 
-    pub status_not : clean_status (status_at b s m.status) ≡ false → No ≡ cleaning m b s
+    pub status_not : clean_status (status_at b s m.status) ≡ false → Ok false ≡ cleaning m b s
     status_not f = by false (rw f)

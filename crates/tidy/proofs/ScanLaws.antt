@@ -1,4 +1,5 @@
 -- A pass over a block's lines tells whether it is tidy. Assumes nothing.
+use Rattle.std.specs.Prelude.{Err, None, Ok, Some}
 use mathlib.Core.Path.{◌≡◌, refl, sym, ap, ◌∙◌}
 use mathlib.Core.Bool.{Bool, true, false, ◌&&◌}
 use mathlib.Core.List.{List}
@@ -19,8 +20,6 @@ use Rattle.rebuilds.specs.Scan.{neat_key, neat_line, after_key, after_line, scan
 use Rattle.line_reader.specs.Reading.{Rules}
 use Rattle.rebuilds.proofs.TidyBlocks.{tidy_flags}
 use Rattle.rebuilds.proofs.ScanBlocks.{tidy_scanned}
-use Rattle.tidy.specs.declared.scan.Past.TheVariants.{Behind, Not}
-use Rattle.tidy.specs.declared.Test.TheVariants.{No, Refused}
 use Rattle.tidy.specs.Pass.{ends, behind, past_filled, past_pair}
 use Rattle.tidy.specs.Calls.{answer, rules, tidying}
 use Rattle.tidy.proofs.PassLaws.{past_true, past_place, past_false, after_is, line_ends}
@@ -50,7 +49,7 @@ module _ (l : List ℕ) (at : ℕ) (q : same_list (drop at l) crlf ≡ false) wh
       ap after_line (after_is l at) ∙ drop-drop (before 13 (drop (behind 58 l at) l) + 2) (behind 58 l at) l ∙
       ap (λ (n : ℕ). drop n l) (sym (add_assoc (behind 58 l at) (before 13 (drop (behind 58 l at) l)) 2) ∙ sym p)
 
-  pub scan_more : (n v : ℕ) → 0 < n → Behind v ≡ past_pair l at → scan_pairs n (drop at l) ≡ scan_pairs (n - 1) (drop v l)
+  pub scan_more : (n v : ℕ) → 0 < n → Some v ≡ past_pair l at → scan_pairs n (drop at l) ≡ scan_pairs (n - 1) (drop v l)
   unfolding scan_pairs past_pair
   scan_more zero v h e = absurd (omega arith)
   scan_more (suc n) v h e =
@@ -59,7 +58,7 @@ module _ (l : List ℕ) (at : ℕ) (q : same_list (drop at l) crlf ≡ false) wh
       let p = past_place (neat_key (drop at l) && neat_line (after_key (drop at l))) (behind 13 l (behind 58 l at)) v e in
       rw (z, q) (both_pass (neat_key (drop at l)) (neat_line (after_key (drop at l))) (scan_pairs n (after_line (after_key (drop at l)))) t ∙ ap (scan_pairs n) (line_after v p))
 
-  pub scan_stop : (n : ℕ) → 0 < n → Not ≡ past_pair l at → scan_pairs n (drop at l) ≡ false
+  pub scan_stop : (n : ℕ) → 0 < n → None ≡ past_pair l at → scan_pairs n (drop at l) ≡ false
   unfolding scan_pairs past_pair
   scan_stop zero h e = absurd (omega arith)
   scan_stop (suc n) h e =
@@ -69,14 +68,14 @@ module _ (l : List ℕ) (at : ℕ) (q : same_list (drop at l) crlf ≡ false) wh
 -- the status line, and what follows
 module _ (l : List ℕ) (status : Bool) where
   module _ (u : status ≡ true) where
-    pub status_past : (v : ℕ) → Behind v ≡ past_filled 13 10 l 0 → (r : Bool) → r ≡ scan_pairs 256 (drop v l) → r ≡ scanned status l
+    pub status_past : (v : ℕ) → Some v ≡ past_filled 13 10 l 0 → (r : Bool) → r ≡ scan_pairs 256 (drop v l) → r ≡ scanned status l
     unfolding scanned past_filled
     status_past v e r h =
         let t = past_true (filled (take (before 13 l) l) && ends 13 10 l) (behind 13 l 0) v e in
         let p : v ≡ before 13 l + 2 = past_place (filled (take (before 13 l) l) && ends 13 10 l) (behind 13 l 0) v e ∙ ap (λ (n : ℕ). n + 2) (zero-add (before 13 l)) in
         rw (u, line_ends l) (h ∙ ap (λ (n : ℕ). scan_pairs 256 (drop n l)) p ∙ sym (both_pass (filled (take (before 13 l) l)) (ends 13 10 l) (scan_pairs 256 (after_line l)) t))
 
-    pub status_not_past : Not ≡ past_filled 13 10 l 0 → false ≡ scanned status l
+    pub status_not_past : None ≡ past_filled 13 10 l 0 → false ≡ scanned status l
     unfolding scanned past_filled
     status_not_past e =
         let t = past_false (filled (take (before 13 l) l) && ends 13 10 l) (behind 13 l 0) e in
@@ -88,7 +87,7 @@ module _ (l : List ℕ) (status : Bool) where
 
 -- by cases of the call
 module _ (l : List ℕ) (status quirks : Bool) (limit : ℕ) where
-  pub tidy_refused : 65536 < limit → Refused BadRooms ≡ tidying l status quirks limit
+  pub tidy_refused : 65536 < limit → Err BadRooms ≡ tidying l status quirks limit
   unfolding tidying when◌then◌else◌
   tidy_refused h = rw (lt-leb limit 65536 h)
 
@@ -98,7 +97,7 @@ module _ (l : List ℕ) (status quirks : Bool) (limit : ℕ) where
       let z : limit ≤ limit = omega arith in
       rw (le-leb limit 65536 h, tidy_scanned (rules limit quirks) z status l, e)
 
-  pub tidy_long : limit ≤ 65536 → limit < length l → No ≡ tidying l status quirks limit
+  pub tidy_long : limit ≤ 65536 → limit < length l → Ok false ≡ tidying l status quirks limit
   tidy_long h k = by h false (rw (lt-leb (length l) limit k))
 
   pub tidy_by : limit ≤ 65536 → length l ≤ limit → (t : Bool) → scanned status l ≡ t → answer t ≡ tidying l status quirks limit

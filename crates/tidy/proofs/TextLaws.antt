@@ -1,8 +1,8 @@
 -- Laws of clean texts: what they hold, what trimming leaves of them, and their cases. Assumes nothing.
+use Rattle.std.specs.Prelude.{Some}
 use mathlib.Core.Path.{◌≡◌, refl, sym, ap, ◌∙◌}
 use mathlib.Core.Bool.{Bool, true, false, ◌&&◌, not, false≢true}
 use mathlib.Core.List.{List, [], ◌∷◌}
-use mathlib.Core.Option.{some}
 use Prim.Native.Nat.{ℕ, zero, suc, ◌+◌, ◌-◌}
 use native.Mathlib.Nat.{zero-add}
 use native.Mathlib.Omega.{arith}
@@ -71,11 +71,11 @@ module _ (l : List ℕ) where
       go [] e = absurd (e refl)
       go (x ∷ xs) e = refl
 
-  pub bare_status : length l ≡ 0 → false ≡ clean_status (some l)
+  pub bare_status : length l ≡ 0 → false ≡ clean_status (Some l)
   unfolding clean_status
   bare_status e = rw (filled_not e)
 
-  pub full_status : (length l ≡ 0 → ⊥) → (r : Bool) → r ≡ neat l → r ≡ clean_status (some l)
+  pub full_status : (length l ≡ 0 → ⊥) → (r : Bool) → r ≡ neat l → r ≡ clean_status (Some l)
   unfolding clean_status
   full_status e r h = rw (filled_is e) h
 

@@ -9,22 +9,16 @@ ghost use Rattle.maps.specs.Said.{pair_at, status_at};
 ghost use Rattle.rebuilds.specs.Clean.{clean_pairs, clean_status};
 ghost use Rattle.tidy.specs.Calls.{cleaning, tidying};
 
+use maps::Place;
 use leaves::refusals::Refusal;
-use maps::{Checked, Field, HeaderMap, Status};
+use maps::{Field, HeaderMap};
 
-#[derive(Clone, Copy)]
-pub enum Test {
-    Yes,
-    No,
-    Refused(Refusal),
-}
-
-fn status_is_clean<'a>(s: Status, block: &'a [u8], store: &'a [u8]) -> bool
+fn status_is_clean<'a>(s: Option<Place>, block: &'a [u8], store: &'a [u8]) -> bool
     ensures { result ≡ clean_status (status_at block.now store.now s) }
 {
     match s {
-        Status::Absent => true,
-        Status::At(p) => {
+        None => true,
+        Some(p) => {
             let text = maps::part(block, store, p);
             texts::is_clean_status(text)
         }
@@ -53,39 +47,39 @@ fn are_clean<'a>(t: [Field; 256], n: usize, block: &'a [u8], store: &'a [u8]) ->
 }
 
 // Whether what a map says is clean.
-pub fn clean<'a>(m: HeaderMap, block: &'a [u8], store: &'a [u8]) -> Test
+pub fn clean<'a>(m: HeaderMap, block: &'a [u8], store: &'a [u8]) -> Result<bool, Refusal>
     ensures { result ≡ cleaning m block.now store.now }
 {
     let s = maps::check_done(m, block, store);
     match s {
-        Checked::Fine => {
+        Ok(()) => {
             let status = m.status;
             if status_is_clean(status, block, store) {
                 let t = m.table;
                 let n = m.fields;
                 if are_clean(t, n, block, store) {
-                    return Test::Yes;
+                    return Ok(true);
                 }
             }
-            Test::No
+            Ok(false)
         }
-        Checked::Refused(x) => Test::Refused(x),
+        Err(x) => Err(x),
     }
 }
 
 // Whether a block is tidy for its flags and limit: one pass over its lines, with nothing lent. Quirks make no difference.
-pub fn tidy(octets: &[u8], status: bool, quirks: bool, limit: usize) -> Test
+pub fn tidy(octets: &[u8], status: bool, quirks: bool, limit: usize) -> Result<bool, Refusal>
     ensures { result ≡ tidying octets.now status quirks limit }
 {
     if maps::LARGEST < limit {
-        return Test::Refused(Refusal::BadRooms);
+        return Err(Refusal::BadRooms);
     }
     if limit < octets.len() {
-        return Test::No;
+        return Ok(false);
     }
     if scan::is_scanned(octets, status) {
-        Test::Yes
+        Ok(true)
     } else {
-        Test::No
+        Ok(false)
     }
 }

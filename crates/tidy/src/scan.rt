@@ -7,13 +7,6 @@ ghost use Rattle.tidy.specs.Pass.{past_text, past_filled, past_pair};
 
 use crate::texts;
 
-// The place behind what was looked for.
-#[derive(Clone, Copy)]
-pub enum Past {
-    Behind(usize),
-    Not,
-}
-
 fn has_two(octets: &[u8], at: usize, x: u8, y: u8) -> bool
     requires { at ≤ length octets.now }
     ensures { result ≡ same_list (take 2 (drop at octets.now)) (x ∷ y ∷ []) }
@@ -28,43 +21,43 @@ fn has_two(octets: &[u8], at: usize, x: u8, y: u8) -> bool
 }
 
 // Past the neat text before the first x, and x and y behind it.
-fn past_text(octets: &[u8], at: usize, x: u8, y: u8) -> Past
+fn past_text(octets: &[u8], at: usize, x: u8, y: u8) -> Option<usize>
     requires { at ≤ length octets.now }
     ensures { result ≡ past_text x y octets.now at }
 {
     let end = lines::find_octet(octets, at, x);
     if has_two(octets, end, x, y) {
         if texts::is_neat(&octets[at..end]) {
-            return Past::Behind(end + 2);
+            return Some(end + 2);
         }
-        return Past::Not;
+        return None;
     }
-    Past::Not
+    None
 }
 
 // The same, with a text that is not empty.
-fn past_filled(octets: &[u8], at: usize, x: u8, y: u8) -> Past
+fn past_filled(octets: &[u8], at: usize, x: u8, y: u8) -> Option<usize>
     requires { at ≤ length octets.now }
     ensures { result ≡ past_filled x y octets.now at }
 {
     if at < octets.len() {
         if octets[at] == x {
-            return Past::Not;
+            return None;
         }
         return past_text(octets, at, x, y);
     }
-    Past::Not
+    None
 }
 
 // Past a key, colon and space, a value, CR and LF.
-fn past_pair(octets: &[u8], at: usize) -> Past
+fn past_pair(octets: &[u8], at: usize) -> Option<usize>
     requires { at ≤ length octets.now }
     ensures { result ≡ past_pair octets.now at }
 {
     let key = past_filled(octets, at, 58, 32);
     match key {
-        Past::Behind(value) => past_text(octets, value, 13, 10),
-        Past::Not => Past::Not,
+        Some(value) => past_text(octets, value, 13, 10),
+        None => None,
     }
 }
 
@@ -91,11 +84,11 @@ fn scan_pairs(octets: &[u8], from: usize) -> bool
         }
         let pair = past_pair(octets, at);
         match pair {
-            Past::Behind(next) => {
+            Some(next) => {
                 at = next;
                 left -= 1;
             }
-            Past::Not => {
+            None => {
                 return false;
             }
         }
@@ -110,8 +103,8 @@ pub fn is_scanned(octets: &[u8], status: bool) -> bool
     if status {
         let line = past_filled(octets, 0, 13, 10);
         match line {
-            Past::Behind(next) => scan_pairs(octets, next),
-            Past::Not => false,
+            Some(next) => scan_pairs(octets, next),
+            None => false,
         }
     } else {
         scan_pairs(octets, 0)

@@ -1,6 +1,5 @@
 // Clean texts: keys, values and status lines.
 ghost use Rattle.std.specs.Prelude.{◌≡◌};
-ghost use Rattle.std.proofs.Math.Option.{some};
 ghost use Rattle.leaves.specs.Octets.{has};
 ghost use Rattle.rebuilds.specs.Clean.{neat, clean_pair, clean_status};
 ghost use Rattle.tidy.specs.Keys.{clean_key};
@@ -30,7 +29,7 @@ pub fn is_neat(text: &[u8]) -> bool
 // Neat, and not empty.
 #[tactic(auto, using(crate::proofs::TextLaws::bare_status, crate::proofs::TextLaws::full_status))]
 pub fn is_clean_status(text: &[u8]) -> bool
-    ensures { result ≡ clean_status (some text.now) }
+    ensures { result ≡ clean_status (Some text.now) }
 {
     if text.len() == 0 {
         return false;

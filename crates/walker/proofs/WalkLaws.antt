@@ -1,4 +1,5 @@
 -- What the walker's calls give, case by case. Assumes nothing.
+use Rattle.std.specs.Prelude.{Err, Ok, Result, ⊤}
 use mathlib.Core.Path.{◌≡◌, refl, sym, ap, ◌∙◌, subst}
 use mathlib.Core.Bool.{Bool, true, false}
 use mathlib.Core.List.{List, [], ◌∷◌}
@@ -17,8 +18,6 @@ use Rattle.maps.specs.Good.{default_limit, good, lent, checked, unless}
 use Rattle.maps.specs.Maps.{empty, Given, Is}
 use Rattle.maps.specs.declared.Phase.TheVariants.{Reading, Done}
 use Rattle.maps.specs.declared.HeaderMap.{HeaderMap}
-use Rattle.maps.specs.declared.Checked.{Checked}
-use Rattle.maps.specs.declared.Checked.TheVariants.{Fine, Refused as Bad}
 use Rattle.maps.proofs.GoodLaws.{goes_on, refused_by, not_refused, checked_bad, checked_short, checked_wrong, checked_fine}
 use Rattle.reader.specs.Calls.{checked_rooms, beginning, makes, feeding}
 use Rattle.reader.specs.declared.Fed.{Fed}
@@ -28,9 +27,7 @@ use Rattle.openings.specs.Opening.{longest}
 use Rattle.walker.specs.Walk.{furthest, trailer, trailer_walked, rest_walked, fresh, stops_inside, header_more, header_by, header_gives, header_read, between_walked, header_walked, emptied, walked, stands, stops_at, keeps, starting, ready_at, checked_walker, allowed, body_walked, common, onward, trailer_stage, trailer_ended, resting, stage_ended, walked_on, stage_walked, walking, ending}
 use Rattle.walker.specs.declared.Stage.{Stage}
 use Rattle.walker.specs.declared.Stage.TheVariants.{Between, Header, Body, Stopped}
-use Rattle.walker.specs.declared.Resting.{Resting}
-use Rattle.walker.specs.declared.Resting.TheVariants.{Stopped as Stays, Ended as Over, Walks}
-use Rattle.walker.specs.declared.Step.TheVariants.{More, Body as Part, End, Refused}
+use Rattle.walker.specs.declared.Step.TheVariants.{More, Body as Part, End}
 use Rattle.walker.specs.declared.Walker.{Walker}
 use Rattle.walker.specs.declared.Walked.{Walked}
 
@@ -58,20 +55,20 @@ module _ (position n : ℕ) where
 
 -- the first checks
 module _ (w : Walker) (b s : ℕ) where
-  pub rest_over : longest < w.rest → Bad BadMap ≡ checked_walker w b s
+  pub rest_over : longest < w.rest → Err BadMap ≡ checked_walker w b s
   unfolding checked_walker
   rest_over h = sym (if_true _ _ (lt-ltb _ _ h))
 
-  pub rest_fine : w.rest ≤ longest → (r : Bool) → r ≡ ready_at w.stage w.map.phase → (c : Checked) → c ≡ checked r w.map b s → c ≡ checked_walker w b s
+  pub rest_fine : w.rest ≤ longest → (r : Bool) → r ≡ ready_at w.stage w.map.phase → (c : Result ⊤ Refusal) → c ≡ checked r w.map b s → c ≡ checked_walker w b s
   unfolding checked_walker
   rest_fine h r e c f = f ∙ ap (λ (t : Bool). checked t w.map b s) e ∙ sym (if_false _ _ (le-ltb _ _ h))
 
 -- they give 2, 3 or 7
 module _ (P : Refusal → Type 0) (two : P ShortLoan) (three : P BadMap) (seven : P WrongPhase) where
-  checked_gives : (ready : Bool) (m : HeaderMap) (b s : ℕ) (x : Refusal) → Bad x ≡ checked ready m b s → P x
+  checked_gives : (ready : Bool) (m : HeaderMap) (b s : ℕ) (x : Refusal) → Err x ≡ checked ready m b s → P x
   checked_gives ready m b s x e = by (good m) refl (lent m b s) refl ready refl
     where
-      same : (y : Refusal) → Bad y ≡ checked ready m b s → P y → P x
+      same : (y : Refusal) → Err y ≡ checked ready m b s → P y → P x
       same y f h = let z : y ≡ x = cc in subst P z h
 
       by : (g : Bool) → good m ≡ g → (l : Bool) → lent m b s ≡ l → (r : Bool) → ready ≡ r → P x
@@ -80,7 +77,7 @@ module _ (P : Refusal → Type 0) (two : P ShortLoan) (three : P BadMap) (seven 
       by true d true f false h = same WrongPhase (checked_wrong ready m b s d f h) seven
       by true d true f true h = not_refused x (checked_fine ready m b s d f h ∙ sym e)
 
-  pub checks_give : (w : Walker) (b s : ℕ) (x : Refusal) → Bad x ≡ checked_walker w b s → P x
+  pub checks_give : (w : Walker) (b s : ℕ) (x : Refusal) → Err x ≡ checked_walker w b s → P x
   checks_give w b s x e = by (ltb longest w.rest) refl
     where
       by : (t : Bool) → ltb longest w.rest ≡ t → P x
@@ -96,9 +93,9 @@ module _ (w : Walker) (k : ℕ) where
   unfolding body_walked
   body_far h = sym (if_true _ _ (eq-eqb _ _ h))
 
-  pub body_part_lem : (k ≡ 0 → ⊥) → (n : ℕ) → n ≡ min k w.rest → walked w.map (w.position + n) (w.rest - n) Body w.start n Part ≡ body_walked w k
+  pub body_part_lem : (k ≡ 0 → ⊥) → (n : ℕ) → n ≡ min k w.rest → walked w.map (w.position + n) (w.rest - n) Body w.start n (Ok Part) ≡ body_walked w k
   unfolding body_walked
-  body_part_lem h n e = ap (λ (j : ℕ). walked w.map (w.position + j) (w.rest - j) Body w.start j Part) e ∙ sym (if_false _ _ (ne_eqb _ _ h))
+  body_part_lem h n e = ap (λ (j : ℕ). walked w.map (w.position + j) (w.rest - j) Body w.start j (Ok Part)) e ∙ sym (if_false _ _ (ne_eqb _ _ h))
 
 -- what two texts have in common
 module _ (x y : List ℕ) (i : ℕ) where
@@ -165,103 +162,103 @@ common_within (x ∷ xs) (y ∷ ys) = choose (eqb x y) refl (common_within xs ys
 
 -- the end of a trailer
 module _ (w : Walker) (past k n same : ℕ) where
-  pub trailer_whole : past + same ≡ 4 → onward w Between same More ≡ trailer_ended w past k n same
+  pub trailer_whole : past + same ≡ 4 → onward w Between same (Ok More) ≡ trailer_ended w past k n same
   unfolding trailer_ended
   trailer_whole h = sym (if_true _ _ (eq-eqb _ _ h))
 
   module _ (h : past + same ≡ 4 → ⊥) where
-    pub trailer_differs : same < k → onward w (Stopped BadTrailer) same (Refused BadTrailer) ≡ trailer_ended w past k n same
+    pub trailer_differs : same < k → onward w (Stopped BadTrailer) same (Err BadTrailer) ≡ trailer_ended w past k n same
     unfolding trailer_ended
     trailer_differs i = sym (if_false _ _ (ne_eqb _ _ h) ∙ if_true _ _ (lt-ltb _ _ i))
 
-    pub trailer_far : k ≤ same → k < n → onward w (Stopped TooFar) same (Refused TooFar) ≡ trailer_ended w past k n same
+    pub trailer_far : k ≤ same → k < n → onward w (Stopped TooFar) same (Err TooFar) ≡ trailer_ended w past k n same
     unfolding trailer_ended
     trailer_far i j = sym (if_false _ _ (ne_eqb _ _ h) ∙ if_false _ _ (le-ltb _ _ i) ∙ if_true _ _ (lt-ltb _ _ j))
 
-    pub trailer_more : k ≤ same → n ≤ k → (t : Stage) → t ≡ trailer_stage (past + same) → onward w t same More ≡ trailer_ended w past k n same
+    pub trailer_more : k ≤ same → n ≤ k → (t : Stage) → t ≡ trailer_stage (past + same) → onward w t same (Ok More) ≡ trailer_ended w past k n same
     unfolding trailer_ended
-    trailer_more i j t e = ap (λ (u : Stage). onward w u same More) e ∙ sym (if_false _ _ (ne_eqb _ _ h) ∙ if_false _ _ (le-ltb _ _ i) ∙ if_false _ _ (le-ltb _ _ j))
+    trailer_more i j t e = ap (λ (u : Stage). onward w u same (Ok More)) e ∙ sym (if_false _ _ (ne_eqb _ _ h) ∙ if_false _ _ (le-ltb _ _ i) ∙ if_false _ _ (le-ltb _ _ j))
 
 -- a walker's start
 module _ (m : HeaderMap) (room position : ℕ) (b s : List ℕ) where
-  pub starting_goes : Fine ≡ checked_rooms default_limit room (length b) (length s)
-      → starting m room position b s ≡ keeps b s (walked (empty m.table default_limit room false false Done) position 0 Between position 0 More)
+  pub starting_goes : Ok tt ≡ checked_rooms default_limit room (length b) (length s)
+      → starting m room position b s ≡ keeps b s (walked (empty m.table default_limit room false false Done) position 0 Between position 0 (Ok More))
   unfolding starting
   starting_goes e = goes_on _ _ _ e
 
-  pub starting_stops : (x : Refusal) → Bad x ≡ checked_rooms default_limit room (length b) (length s)
-      → starting m room position b s ≡ keeps b s (walked m position 0 (Stopped x) position 0 (Refused x))
+  pub starting_stops : (x : Refusal) → Err x ≡ checked_rooms default_limit room (length b) (length s)
+      → starting m room position b s ≡ keeps b s (walked m position 0 (Stopped x) position 0 (Err x))
   unfolding starting
   starting_stops x e = refused_by _ _ _ x e
 
-  start_by : (c : Checked) → c ≡ checked_rooms default_limit room (length b) (length s)
-      → (r : Made) → r ≡ (unless c (λ e. makes b s m (Bad e)) (makes b s (empty m.table default_limit room false false Reading) Fine)).result
-      → r.answer ≡ Fine → (q : HeaderMap) → q ≡ emptied r.map
-      → Is (starting m room position b s) (walked q position 0 Between position 0 More) b s
+  start_by : (c : Result ⊤ Refusal) → c ≡ checked_rooms default_limit room (length b) (length s)
+      → (r : Made) → r ≡ (unless c (λ e. makes b s m (Err e)) (makes b s (empty m.table default_limit room false false Reading) (Ok tt))).result
+      → r.answer ≡ Ok tt → (q : HeaderMap) → q ≡ emptied r.map
+      → Is (starting m room position b s) (walked q position 0 Between position 0 (Ok More)) b s
   unfolding starting
-  start_by Fine e r f g q h =
+  start_by (Ok tt) e r f g q h =
       let z : q ≡ empty m.table default_limit room false false Done = h ∙ ap (λ (x : Made). emptied x.map) f in
       rw (sym e, z) (record { result = refl; block = refl; store = refl })
-  start_by (Bad x) e r f g q h = apart x (sym (ap (λ (y : Made). y.answer) f) ∙ g)
+  start_by (Err x) e r f g q h = apart x (sym (ap (λ (y : Made). y.answer) f) ∙ g)
     where
-      apart : {A : Type 0} (y : Refusal) → Bad y ≡ Fine → A
+      apart : {A : Type 0} (y : Refusal) → Err y ≡ Ok tt → A
       apart y u = let z : ◌≡◌ {A = ℕ} 0 1 = cc in absurd (omega arith)
 
-  pub starts : (r : Made) → r ≡ (beginning m default_limit room false false b s).result → r.answer ≡ Fine → (q : HeaderMap) → q ≡ emptied r.map
-      → Is (starting m room position b s) (walked q position 0 Between position 0 More) b s
+  pub starts : (r : Made) → r ≡ (beginning m default_limit room false false b s).result → r.answer ≡ Ok tt → (q : HeaderMap) → q ≡ emptied r.map
+      → Is (starting m room position b s) (walked q position 0 Between position 0 (Ok More)) b s
   unfolding beginning
   starts r f g q h = start_by (checked_rooms default_limit room (length b) (length s)) refl r f g q h
 
-  refuse_by : (c : Checked) → c ≡ checked_rooms default_limit room (length b) (length s)
-      → (r : Made) → r ≡ (unless c (λ e. makes b s m (Bad e)) (makes b s (empty m.table default_limit room false false Reading) Fine)).result
-      → (x : Refusal) → r.answer ≡ Bad x → Is (starting m room position b s) (walked m position 0 (Stopped x) position 0 (Refused x)) b s
+  refuse_by : (c : Result ⊤ Refusal) → c ≡ checked_rooms default_limit room (length b) (length s)
+      → (r : Made) → r ≡ (unless c (λ e. makes b s m (Err e)) (makes b s (empty m.table default_limit room false false Reading) (Ok tt))).result
+      → (x : Refusal) → r.answer ≡ Err x → Is (starting m room position b s) (walked m position 0 (Stopped x) position 0 (Err x)) b s
   unfolding starting
-  refuse_by Fine e r f x g = apart x (sym (ap (λ (y : Made). y.answer) f) ∙ g)
+  refuse_by (Ok tt) e r f x g = apart x (sym (ap (λ (y : Made). y.answer) f) ∙ g)
     where
-      apart : {A : Type 0} (y : Refusal) → Fine ≡ Bad y → A
+      apart : {A : Type 0} (y : Refusal) → Ok tt ≡ Err y → A
       apart y u = let z : ◌≡◌ {A = ℕ} 0 1 = cc in absurd (omega arith)
-  refuse_by (Bad y) e r f x g =
-      let u : Bad y ≡ Bad x = sym (ap (λ (d : Made). d.answer) f) ∙ g in
+  refuse_by (Err y) e r f x g =
+      let u : Err y ≡ Err x = sym (ap (λ (d : Made). d.answer) f) ∙ g in
       let z : y ≡ x = cc in
       rw (sym e, z) (record { result = refl; block = refl; store = refl })
 
-  pub start_refused : (r : Made) → r ≡ (beginning m default_limit room false false b s).result → (x : Refusal) → r.answer ≡ Bad x
-      → Is (starting m room position b s) (walked m position 0 (Stopped x) position 0 (Refused x)) b s
+  pub start_refused : (r : Made) → r ≡ (beginning m default_limit room false false b s).result → (x : Refusal) → r.answer ≡ Err x
+      → Is (starting m room position b s) (walked m position 0 (Stopped x) position 0 (Err x)) b s
   unfolding beginning
   start_refused r f x g = refuse_by (checked_rooms default_limit room (length b) (length s)) refl r f x g
 
 -- the end of input
 module _ (w : Walker) (b s : List ℕ) where
-  pub end_rests : (r : Resting) → r ≡ resting w.stage → (e : Refusal) → r ≡ Stays e → Is (ending w b s) (stands w (Refused e)) b s
+  pub end_rests : (r : Result Bool Refusal) → r ≡ resting w.stage → (e : Refusal) → r ≡ Err e → Is (ending w b s) (stands w (Err e)) b s
   unfolding ending
   end_rests r f e g = rw (sym f ∙ g) (record { result = refl; block = refl; store = refl })
 
-  pub end_over : (r : Resting) → r ≡ resting w.stage → r ≡ Over → Is (ending w b s) (stands w End) b s
+  pub end_over : (r : Result Bool Refusal) → r ≡ resting w.stage → r ≡ Ok false → Is (ending w b s) (stands w (Ok End)) b s
   unfolding ending
   end_over r f g = rw (sym f ∙ g) (record { result = refl; block = refl; store = refl })
 
-  module _ (r : Resting) (f : r ≡ resting w.stage) (g : r ≡ Walks) where
-    pub end_checked : Fine ≡ checked_walker w (length b) (length s) → (q : Walked) → q ≡ stage_ended w.stage w → Is (ending w b s) q b s
+  module _ (r : Result Bool Refusal) (f : r ≡ resting w.stage) (g : r ≡ Ok true) where
+    pub end_checked : Ok tt ≡ checked_walker w (length b) (length s) → (q : Walked) → q ≡ stage_ended w.stage w → Is (ending w b s) q b s
     unfolding ending
     end_checked h q d = rw (sym f ∙ g, sym h) (record { result = d; block = refl; store = refl })
 
-    pub end_stopped : (e : Refusal) → Bad e ≡ checked_walker w (length b) (length s) → Is (ending w b s) (stops_at w e) b s
+    pub end_stopped : (e : Refusal) → Err e ≡ checked_walker w (length b) (length s) → Is (ending w b s) (stops_at w e) b s
     unfolding ending
     end_stopped e h = rw (sym f ∙ g, sym h) (record { result = refl; block = refl; store = refl })
 
-    pub walk_checked : (p : List ℕ) → Fine ≡ checked_walker w (length b) (length s) → walking w b s p ≡ walked_on w b s p
+    pub walk_checked : (p : List ℕ) → Ok tt ≡ checked_walker w (length b) (length s) → walking w b s p ≡ walked_on w b s p
     unfolding walking
     walk_checked p h = rw (sym f ∙ g, sym h)
 
-    pub walk_stopped : (p : List ℕ) (e : Refusal) → Bad e ≡ checked_walker w (length b) (length s) → walking w b s p ≡ keeps b s (stops_at w e)
+    pub walk_stopped : (p : List ℕ) (e : Refusal) → Err e ≡ checked_walker w (length b) (length s) → walking w b s p ≡ keeps b s (stops_at w e)
     unfolding walking
     walk_stopped p e h = rw (sym f ∙ g, sym h)
 
-  pub walk_rests : (p : List ℕ) (r : Resting) → r ≡ resting w.stage → (e : Refusal) → r ≡ Stays e → walking w b s p ≡ keeps b s (stands w (Refused e))
+  pub walk_rests : (p : List ℕ) (r : Result Bool Refusal) → r ≡ resting w.stage → (e : Refusal) → r ≡ Err e → walking w b s p ≡ keeps b s (stands w (Err e))
   unfolding walking
   walk_rests p r f e g = rw (sym f ∙ g)
 
-  pub walk_over : (p : List ℕ) (r : Resting) → r ≡ resting w.stage → r ≡ Over → walking w b s p ≡ keeps b s (stands w End)
+  pub walk_over : (p : List ℕ) (r : Result Bool Refusal) → r ≡ resting w.stage → r ≡ Ok false → walking w b s p ≡ keeps b s (stands w (Ok End))
   unfolding walking
   walk_over p r f g = rw (sym f ∙ g)
 
@@ -312,11 +309,11 @@ going e i = rw e i
 
 -- a header
 module _ (m : HeaderMap) (position rest start taken k n : ℕ) where
-  pub more_far : k < n → (q : HeaderMap) → q ≡ emptied m → walked q position rest (Stopped TooFar) start taken (Refused TooFar) ≡ header_more m position rest start taken k n
+  pub more_far : k < n → (q : HeaderMap) → q ≡ emptied m → walked q position rest (Stopped TooFar) start taken (Err TooFar) ≡ header_more m position rest start taken k n
   unfolding header_more
-  more_far h q e = ap (λ (x : HeaderMap). walked x position rest (Stopped TooFar) start taken (Refused TooFar)) e ∙ sym (if_true _ _ (lt-ltb _ _ h))
+  more_far h q e = ap (λ (x : HeaderMap). walked x position rest (Stopped TooFar) start taken (Err TooFar)) e ∙ sym (if_true _ _ (lt-ltb _ _ h))
 
-  pub more_on : n ≤ k → walked m position rest Header start taken More ≡ header_more m position rest start taken k n
+  pub more_on : n ≤ k → walked m position rest Header start taken (Ok More) ≡ header_more m position rest start taken k n
   unfolding header_more
   more_on h = sym (if_false _ _ (le-ltb _ _ h))
 
@@ -362,7 +359,7 @@ module _ (w : Walker) (b s p : List ℕ) (k : ℕ) (e : k ≡ allowed w.position
 
 -- a walker whose first checks are fine
 module _ (w : Walker) (b s p : List ℕ) where
-  pub on_empty : length p ≡ 0 → walked_on w b s p ≡ keeps b s (stands w More)
+  pub on_empty : length p ≡ 0 → walked_on w b s p ≡ keeps b s (stands w (Ok More))
   unfolding walked_on
   on_empty h = if_true _ _ (eq-eqb _ _ h)
 
@@ -373,7 +370,7 @@ module _ (w : Walker) (b s p : List ℕ) where
 -- what holds in each case of a definition holds of it
 module _ (P : Walked → Type 0) (w : Walker) where
   pub by_body : (k : ℕ) → (k ≡ 0 → P (stops_at w TooFar))
-      → ((k ≡ 0 → ⊥) → P (walked w.map (w.position + min k w.rest) (w.rest - min k w.rest) Body w.start (min k w.rest) Part)) → P (body_walked w k)
+      → ((k ≡ 0 → ⊥) → P (walked w.map (w.position + min k w.rest) (w.rest - min k w.rest) Body w.start (min k w.rest) (Ok Part))) → P (body_walked w k)
   unfolding body_walked
   by_body k far part = by_if P (eqb k 0) _ _ (λ e. far (eqb-true k 0 e)) (λ e. part (eqb-false k 0 e))
 
@@ -388,10 +385,10 @@ module _ (P : Walked → Type 0) (w : Walker) where
     abbrev in_common : ℕ
     in_common = common (drop past trailer) (take may_take p)
 
-    pub by_trailer : (past + in_common ≡ 4 → P (onward w Between in_common More))
-        → ((past + in_common ≡ 4 → ⊥) → in_common < may_take → P (onward w (Stopped BadTrailer) in_common (Refused BadTrailer)))
-        → ((past + in_common ≡ 4 → ⊥) → may_take ≤ in_common → may_take < length p → P (onward w (Stopped TooFar) in_common (Refused TooFar)))
-        → ((past + in_common ≡ 4 → ⊥) → may_take ≤ in_common → length p ≤ may_take → P (onward w (trailer_stage (past + in_common)) in_common More)) → P (trailer_walked w past p)
+    pub by_trailer : (past + in_common ≡ 4 → P (onward w Between in_common (Ok More)))
+        → ((past + in_common ≡ 4 → ⊥) → in_common < may_take → P (onward w (Stopped BadTrailer) in_common (Err BadTrailer)))
+        → ((past + in_common ≡ 4 → ⊥) → may_take ≤ in_common → may_take < length p → P (onward w (Stopped TooFar) in_common (Err TooFar)))
+        → ((past + in_common ≡ 4 → ⊥) → may_take ≤ in_common → length p ≤ may_take → P (onward w (trailer_stage (past + in_common)) in_common (Ok More))) → P (trailer_walked w past p)
     unfolding trailer_walked trailer_ended
     by_trailer whole differs far more =
         by_if P (eqb (past + in_common) 4) _ _ (λ e. whole (eqb-true (past + in_common) 4 e))
@@ -401,8 +398,8 @@ module _ (P : Walked → Type 0) (w : Walker) where
         (λ f. by_if P (ltb may_take (length p)) _ _ (λ g. far d (ltb-false in_common may_take f) (ltb-true may_take (length p) g))
         (λ g. more d (ltb-false in_common may_take f) (ltb-false may_take (length p) g))))
 
-  pub by_more : (m : HeaderMap) (position rest start taken k n : ℕ) → (k < n → P (walked (emptied m) position rest (Stopped TooFar) start taken (Refused TooFar)))
-      → (n ≤ k → P (walked m position rest Header start taken More)) → P (header_more m position rest start taken k n)
+  pub by_more : (m : HeaderMap) (position rest start taken k n : ℕ) → (k < n → P (walked (emptied m) position rest (Stopped TooFar) start taken (Err TooFar)))
+      → (n ≤ k → P (walked m position rest Header start taken (Ok More))) → P (header_more m position rest start taken k n)
   unfolding header_more
   by_more m position rest start taken k n far on = by_if P (ltb k n) _ _ (λ e. far (ltb-true k n e)) (λ e. on (ltb-false k n e))
 

@@ -1,24 +1,22 @@
 -- A walker but for its map: what a call does on the trail alone, and what becomes of the map. Assumes nothing.
-use Rattle.std.specs.Prelude.{◌≡◌, true, false, List, ℕ, ◌+◌, ◌≤◌, eqb, ltb, length}
+use Rattle.leaves.specs.declared.refusals.Refusal.{Refusal}
+use Rattle.std.specs.Prelude.{◌≡◌, true, false, List, ℕ, ◌+◌, ◌≤◌, eqb, ltb, length, Err, Ok, Result, ⊤}
 use Rattle.leaves.specs.Choice.{when◌then◌else◌}
 use Rattle.leaves.specs.Refusals.{refusal}
 use Rattle.maps.specs.Good.{checked, checked_done}
 use Rattle.maps.specs.Heads.{under, head_of, empty_head}
 use Rattle.maps.specs.Maps.{Given}
-use Rattle.maps.specs.declared.Checked.{Checked}
-use Rattle.maps.specs.declared.Checked.TheVariants.{Fine, Refused as Bad}
 use Rattle.maps.specs.declared.Head.{Head}
 use Rattle.maps.specs.declared.HeaderMap.{HeaderMap}
 use Rattle.maps.specs.declared.Phase.TheVariants.{Reading, Done}
 use Rattle.line_reader.specs.declared.Answer.{Answer}
-use Rattle.line_reader.specs.declared.Answer.TheVariants.{More as FedMore, Blank, Input as FedInput, Refused as FedRefused}
+use Rattle.line_reader.specs.declared.Answer.TheVariants.{More as FedMore, Blank, Input as FedInput}
 use Rattle.openings.specs.Opening.{longest}
-use Rattle.openings.specs.declared.Opening.{Opening}
 use Rattle.walker.specs.Walk.{walked, keeps, ready_at, opened_at, header_more, header_read, body_walked, trailer_walked, between_walked, header_walked, allowed, walking, ending}
 use Rattle.walker.specs.declared.Stage.{Stage}
 use Rattle.walker.specs.declared.Stage.TheVariants.{Between, Header, Body, Cr, Lf, LastCr, LastLf, Ended, Stopped}
 use Rattle.walker.specs.declared.Step.{Step}
-use Rattle.walker.specs.declared.Step.TheVariants.{More, Refused}
+use Rattle.walker.specs.declared.Step.TheVariants.{More}
 use Rattle.walker.specs.declared.Walker.{Walker}
 use Rattle.walker.specs.declared.Walked.{Walked}
 use Rattle.walker.specs.declared.Trail.{Trail}
@@ -30,7 +28,7 @@ use Rattle.walker.specs.declared.Way.TheVariants.{Begins, GoesOn, Passes, Trails
 use Rattle.walker.specs.declared.Turn.{Turn}
 use Rattle.walker.specs.declared.Turn.TheVariants.{Stays, Reads}
 use Rattle.walker.specs.declared.Headed.{Headed}
-use Rattle.walker.specs.declared.Headed.TheVariants.{Goes, Opens, Input, Shut}
+use Rattle.walker.specs.declared.Headed.TheVariants.{Goes, Opens, Input}
 
 abbrev pub walker_of : HeaderMap → Trail → Walker
 walker_of m t = record { map = m; position = t.position; rest = t.rest; stage = t.stage; start = t.start }
@@ -56,7 +54,7 @@ abbrev pub Follows : Trail → Trailed → (Walker → Walked) → Type 0
 Follows t r F = (m : HeaderMap) → with_map m r ≡ F (walker_of m t)
 
 -- a trail at another stage
-abbrev pub at_stage : Trail → Stage → ℕ → Step → Kept → Trailed
+abbrev pub at_stage : Trail → Stage → ℕ → Result Step Refusal → Kept → Trailed
 at_stage t stage taken step kept =
     record { trail = record { position = t.position; rest = t.rest; stage = stage; start = t.start }; taken = taken; step = step; kept = kept }
 
@@ -98,36 +96,36 @@ way_walked Passes w b s p = keeps b s (body_walked w (allowed w.position (length
 way_walked (Trails past) w b s p = keeps b s (trailer_walked w past p)
 
 -- what a map's first checks say, or 3 for "a walker's body rest over 10's cap"
-abbrev pub checked_rest : ℕ → Checked → Checked
-checked_rest rest c = when ltb longest rest then Bad (refusal 3) else c
+abbrev pub checked_rest : ℕ → Result ⊤ Refusal → Result ⊤ Refusal
+checked_rest rest c = when ltb longest rest then Err (refusal 3) else c
 
 -- c is what the first checks say of a map with a trail and loans of b and s octets
-abbrev pub Checks : Trail → Checked → HeaderMap → ℕ → ℕ → Type 0
+abbrev pub Checks : Trail → Result ⊤ Refusal → HeaderMap → ℕ → ℕ → Type 0
 Checks t c m b s = c ≡ checked (ready_at t.stage m.phase) m b s
 
 -- a turn: for every map that the first checks say c of, what walking gives
-pub record Turns (t : Trail) (c : Checked) (p : List ℕ) (r : Turn) : Type 0 where
+pub record Turns (t : Trail) (c : Result ⊤ Refusal) (p : List ℕ) (r : Turn) : Type 0 where
   pub gives : (m : HeaderMap) (b s : List ℕ) → Checks t c m (length b) (length s) → walking (walker_of m t) b s p ≡ turned m t b s p r
   pub reaches : Reaches t p r
 
 -- a map that a blank line ended passes the first checks
-abbrev pub Judged : Answer → HeaderMap → List ℕ → List ℕ → Type 0
-Judged a m b s = a ≡ Blank → Fine ≡ checked_done m b s
+abbrev pub Judged : Result Answer Refusal → HeaderMap → List ℕ → List ℕ → Type 0
+Judged a m b s = a ≡ Ok Blank → Ok tt ≡ checked_done m b s
 
 -- what an answer of the reader comes to, with what the map opens
-abbrev pub headed_by : Answer → Opening → Headed
-headed_by FedMore o = Goes
-headed_by Blank o = Opens o
-headed_by FedInput o = Input
-headed_by (FedRefused e) o = Shut e
+abbrev pub headed_by : Result Answer Refusal → Result (ℕ × ℕ) Refusal → Result Headed Refusal
+headed_by (Ok FedMore) o = Ok Goes
+headed_by (Ok Blank) o = Ok (Opens o)
+headed_by (Ok FedInput) o = Ok Input
+headed_by (Err e) o = Err e
 
 -- and what that means for the walker: `Walk.header_by`
-abbrev pub headed_walked : Headed → HeaderMap → ℕ → ℕ → ℕ → ℕ → ℕ → ℕ → Walked
-headed_walked Goes m position rest start taken k n = header_more m position rest start taken k n
-headed_walked (Opens o) m position rest start taken k n = opened_at m position rest start taken o
-headed_walked Input m position rest start taken k n = walked m position rest Header start taken More
-headed_walked (Shut e) m position rest start taken k n = walked m position rest (Stopped e) start taken (Refused e)
+abbrev pub headed_walked : Result Headed Refusal → HeaderMap → ℕ → ℕ → ℕ → ℕ → ℕ → ℕ → Walked
+headed_walked (Ok Goes) m position rest start taken k n = header_more m position rest start taken k n
+headed_walked (Ok (Opens o)) m position rest start taken k n = opened_at m position rest start taken o
+headed_walked (Ok Input) m position rest start taken k n = walked m position rest Header start taken (Ok More)
+headed_walked (Err e) m position rest start taken k n = walked m position rest (Stopped e) start taken (Err e)
 
 -- the end of input on a trail: for every map that the first checks say c of
-abbrev pub Ends : Trail → Checked → Trailed → Type 0
+abbrev pub Ends : Trail → Result ⊤ Refusal → Trailed → Type 0
 Ends t c r = (m : HeaderMap) (b s : List ℕ) → Checks t c m (length b) (length s) → ending (walker_of m t) b s ≡ keeps b s (with_map m r)

@@ -13,8 +13,7 @@ ghost use Rattle.walker.specs.Trails.{walker_of, trail_of, kept_map, with_map, J
 
 use leaves::refusals::Refusal;
 use line_reader::Answer;
-use maps::{Checked, Head, HeaderMap};
-use openings::Opening;
+use maps::{Head, HeaderMap};
 
 // The first position that is too far.
 pub const FURTHEST: u64 = 4611686018427387904;
@@ -51,22 +50,13 @@ pub enum Step {
     Record(u64, u64, u64, u16),
     Body,
     End,
-    Refused(Refusal),
 }
 
 #[derive(Clone, Copy)]
 pub struct Walked {
     pub walker: Walker,
     pub taken: usize,
-    pub step: Step,
-}
-
-// Whether a walker goes on at all.
-#[derive(Clone, Copy)]
-pub enum Resting {
-    Stopped(Refusal),
-    Ended,
-    Walks,
+    pub step: Result<Step, Refusal>,
 }
 
 // A walker but for its map.
@@ -91,7 +81,7 @@ pub enum Kept {
 pub struct Trailed {
     pub trail: Trail,
     pub taken: usize,
-    pub step: Step,
+    pub step: Result<Step, Refusal>,
     pub kept: Kept,
 }
 
@@ -115,9 +105,8 @@ pub enum Turn {
 #[derive(Clone, Copy)]
 pub enum Headed {
     Goes,
-    Opens(Opening),
+    Opens(Result<(u64, u16), Refusal>),
     Input,
-    Shut(Refusal),
 }
 
 fn trail_of(w: Walker) -> Trail
@@ -205,7 +194,7 @@ fn with_map(m: HeaderMap, r: Trailed) -> Walked
 }
 
 // The map's first checks at a stage: 3, 2, 7.
-fn check_map(m: HeaderMap, stage: Stage, block: usize, store: usize) -> Checked
+fn check_map(m: HeaderMap, stage: Stage, block: usize, store: usize) -> Result<(), Refusal>
     ensures { result ≡ checked (ready_at stage m.phase) m block store }
 {
     let phase = m.phase;
@@ -220,7 +209,7 @@ pub fn start(m: HeaderMap, room: usize, position: u64, block: &[u8], store: &[u8
     let made = reader::begin(m, maps::DEFAULT_LIMIT, room, false, false, block, store);
     let answer = made.answer;
     match answer {
-        Checked::Fine => {
+        Ok(()) => {
             let map = kept_map(made.map, Kept::Emptied);
             let walker = Walker {
                 map,
@@ -232,10 +221,10 @@ pub fn start(m: HeaderMap, room: usize, position: u64, block: &[u8], store: &[u8
             Walked {
                 walker,
                 taken: 0,
-                step: Step::More,
+                step: Ok(Step::More),
             }
         }
-        Checked::Refused(e) => {
+        Err(e) => {
             let walker = Walker {
                 map: m,
                 position,
@@ -246,25 +235,25 @@ pub fn start(m: HeaderMap, room: usize, position: u64, block: &[u8], store: &[u8
             Walked {
                 walker,
                 taken: 0,
-                step: Step::Refused(e),
+                step: Err(e),
             }
         }
     }
 }
 
 // What an answer comes to. A map that was just fed was judged, and is good.
-fn comes_to<'a>(answer: Answer, m: HeaderMap, block: &'a [u8], store: &'a [u8]) -> Headed
+fn comes_to<'a>(answer: Result<Answer, Refusal>, m: HeaderMap, block: &'a [u8], store: &'a [u8]) -> Result<Headed, Refusal>
     requires { Judged answer m block.now store.now }
     ensures { result ≡ headed_by answer (openingOf m block.now store.now) }
 {
     match answer {
-        Answer::More => Headed::Goes,
-        Answer::Blank => {
+        Ok(Answer::More) => Ok(Headed::Goes),
+        Ok(Answer::Blank) => {
             let o = openings::open_good(m, block, store);
-            Headed::Opens(o)
+            Ok(Headed::Opens(o))
         }
-        Answer::Input => Headed::Input,
-        Answer::Refused(e) => Headed::Shut(e),
+        Ok(Answer::Input) => Ok(Headed::Input),
+        Err(e) => Err(e),
     }
 }
 

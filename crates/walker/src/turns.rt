@@ -1,29 +1,26 @@
 // A walker but for its map: the trail. What a call does on it is the same for a map by value and for one that is lent.
 ghost use Rattle.std.specs.Prelude.{◌≡◌, ◌+◌, ◌≤◌, min, length, take, drop};
 ghost use Rattle.walker.specs.declared.Stage.TheVariants.{Stopped};
-ghost use Rattle.walker.specs.declared.Step.TheVariants.{Refused};
-ghost use Rattle.walker.specs.declared.Resting.TheVariants.{Walks};
 ghost use Rattle.walker.specs.Walk.{stands as standing, stops_at, stops_inside, resting, ready_at, allowed as allowedOf, body_walked, common as commonOf, onward as onwardTo, trailer_stage, trailer_ended, trailer_walked, opened_at, header_more, between_walked, header_walked, walked_on, stage_ended};
 ghost use Rattle.walker.specs.Trails.{Follows, kept_head, at_stage, way_of, TurningAt, Turning, Turns, checked_rest, headed_walked, Ends};
 
-use crate::{FURTHEST, Headed, Kept, Resting, Stage, Step, Trail, Trailed, Turn, Way};
+use crate::{FURTHEST, Headed, Kept, Stage, Step, Trail, Trailed, Turn, Way};
 use leaves::refusals::Refusal;
-use maps::{Checked, Head, Phase};
-use openings::Opening;
+use maps::{Head, Phase};
 
-fn rests(stage: Stage) -> Resting
+fn rests(stage: Stage) -> Result<bool, Refusal>
     ensures { result ≡ resting stage }
 {
     match stage {
-        Stage::Between => Resting::Walks,
-        Stage::Header => Resting::Walks,
-        Stage::Body => Resting::Walks,
-        Stage::Cr => Resting::Walks,
-        Stage::Lf => Resting::Walks,
-        Stage::LastCr => Resting::Walks,
-        Stage::LastLf => Resting::Walks,
-        Stage::Ended => Resting::Ended,
-        Stage::Stopped(e) => Resting::Stopped(e),
+        Stage::Between => Ok(true),
+        Stage::Header => Ok(true),
+        Stage::Body => Ok(true),
+        Stage::Cr => Ok(true),
+        Stage::Lf => Ok(true),
+        Stage::LastCr => Ok(true),
+        Stage::LastLf => Ok(true),
+        Stage::Ended => Ok(false),
+        Stage::Stopped(e) => Err(e),
     }
 }
 
@@ -56,7 +53,7 @@ pub fn kept_head(h: Head, kept: Kept) -> Head
 }
 
 // A trail at another stage.
-fn at_stage(t: Trail, stage: Stage, taken: usize, step: Step, kept: Kept) -> Trailed
+fn at_stage(t: Trail, stage: Stage, taken: usize, step: Result<Step, Refusal>, kept: Kept) -> Trailed
     ensures { result ≡ at_stage t stage taken step kept }
 {
     let trail = Trail { stage, ..t };
@@ -68,7 +65,7 @@ fn at_stage(t: Trail, stage: Stage, taken: usize, step: Step, kept: Kept) -> Tra
     }
 }
 
-fn stand(t: Trail, step: Step) -> Trailed
+fn stand(t: Trail, step: Result<Step, Refusal>) -> Trailed
     ensures { Follows t result (λ w. standing w step) }
 {
     Trailed {
@@ -82,13 +79,13 @@ fn stand(t: Trail, step: Step) -> Trailed
 fn stop(t: Trail, e: Refusal) -> Trailed
     ensures { Follows t result (λ w. stops_at w e) }
 {
-    at_stage(t, Stage::Stopped(e), 0, Step::Refused(e), Kept::Same)
+    at_stage(t, Stage::Stopped(e), 0, Err(e), Kept::Same)
 }
 
 fn stop_inside(t: Trail, e: Refusal) -> Trailed
     ensures { Follows t result (λ w. stops_inside w e) }
 {
-    at_stage(t, Stage::Stopped(e), 0, Step::Refused(e), Kept::Emptied)
+    at_stage(t, Stage::Stopped(e), 0, Err(e), Kept::Emptied)
 }
 
 fn lesser(n: usize, rest: u64) -> usize
@@ -128,7 +125,7 @@ fn walk_body(t: Trail, k: usize) -> Trailed
     Trailed {
         trail,
         taken: n,
-        step: Step::Body,
+        step: Ok(Step::Body),
         kept: Kept::Same,
     }
 }
@@ -168,7 +165,7 @@ fn trailer_stage(k: usize) -> Stage
 }
 
 // A trail n octets further on.
-fn onward(t: Trail, stage: Stage, n: usize, step: Step) -> Trailed
+fn onward(t: Trail, stage: Stage, n: usize, step: Result<Step, Refusal>) -> Trailed
     requires { t.position + n ≤ 18446744073709551615 }
     ensures { Follows t result (λ w. onwardTo w stage n step) }
 {
@@ -188,9 +185,9 @@ fn onward(t: Trail, stage: Stage, n: usize, step: Step) -> Trailed
 // The same, stopped there.
 fn halt(t: Trail, e: Refusal, n: usize) -> Trailed
     requires { t.position + n ≤ 18446744073709551615 }
-    ensures { Follows t result (λ w. onwardTo w (Stopped e) n (Refused e)) }
+    ensures { Follows t result (λ w. onwardTo w (Stopped e) n (Err e)) }
 {
-    onward(t, Stage::Stopped(e), n, Step::Refused(e))
+    onward(t, Stage::Stopped(e), n, Err(e))
 }
 
 // The trailer from its octet number past on, of which the piece has the octets same in common, of k that may be taken.
@@ -199,7 +196,7 @@ fn end_trailer(t: Trail, past: usize, k: usize, n: usize, same: usize) -> Traile
     ensures { Follows t result (λ w. trailer_ended w past k n same) }
 {
     if past + same == 4 {
-        return onward(t, Stage::Between, same, Step::More);
+        return onward(t, Stage::Between, same, Ok(Step::More));
     }
     if same < k {
         return halt(t, Refusal::BadTrailer, same);
@@ -208,7 +205,7 @@ fn end_trailer(t: Trail, past: usize, k: usize, n: usize, same: usize) -> Traile
         return halt(t, Refusal::TooFar, same);
     }
     let stage = trailer_stage(past + same);
-    onward(t, stage, same, Step::More)
+    onward(t, stage, same, Ok(Step::More))
 }
 
 // How many octets of the first k of a piece the trailer wants, from its octet number past on.
@@ -274,11 +271,11 @@ fn resume_header(t: Trail, k: usize) -> Turn
 
 // A turn after the first checks.
 fn turn_on(t: Trail, piece: &[u8]) -> Turn
-    requires { resting t.stage ≡ Walks }
+    requires { resting t.stage ≡ Ok true }
     ensures { Turning t piece.now result (λ w b s. walked_on w b s piece.now) }
 {
     if piece.len() == 0 {
-        let r = stand(t, Step::More);
+        let r = stand(t, Ok(Step::More));
         return Turn::Stays(r);
     }
     let k = allowed(t.position, piece.len());
@@ -300,32 +297,32 @@ fn turn_on(t: Trail, piece: &[u8]) -> Turn
 
 // What a map's first checks say, or 3 for a rest that is too long.
 #[tactic(auto, using(crate::proofs::TrailLaws::rest_long, crate::proofs::TrailLaws::rest_fits))]
-fn check_rest(rest: u64, c: Checked) -> Checked
+fn check_rest(rest: u64, c: Result<(), Refusal>) -> Result<(), Refusal>
     ensures { result ≡ checked_rest rest c }
 {
     if openings::CAP < rest {
-        return Checked::Refused(Refusal::BadMap);
+        return Err(Refusal::BadMap);
     }
     c
 }
 
 // A turn at a piece; c is what the map's first checks say.
-pub fn turn(t: Trail, c: Checked, piece: &[u8]) -> Turn
+pub fn turn(t: Trail, c: Result<(), Refusal>, piece: &[u8]) -> Turn
     ensures { Turns t c piece.now result }
 {
     let stage = t.stage;
     match rests(stage) {
-        Resting::Stopped(e) => {
-            let r = stand(t, Step::Refused(e));
+        Err(e) => {
+            let r = stand(t, Err(e));
             Turn::Stays(r)
         }
-        Resting::Ended => {
-            let r = stand(t, Step::End);
+        Ok(false) => {
+            let r = stand(t, Ok(Step::End));
             Turn::Stays(r)
         }
-        Resting::Walks => match check_rest(t.rest, c) {
-            Checked::Fine => turn_on(t, piece),
-            Checked::Refused(e) => {
+        Ok(true) => match check_rest(t.rest, c) {
+            Ok(()) => turn_on(t, piece),
+            Err(e) => {
                 let r = stop(t, e);
                 Turn::Stays(r)
             }
@@ -342,19 +339,19 @@ fn carries_on(t: Trail, taken: usize, k: usize, n: usize) -> Trailed
             t,
             Stage::Stopped(Refusal::TooFar),
             taken,
-            Step::Refused(Refusal::TooFar),
+            Err(Refusal::TooFar),
             Kept::Emptied,
         );
     }
-    at_stage(t, Stage::Header, taken, Step::More, Kept::Same)
+    at_stage(t, Stage::Header, taken, Ok(Step::More), Kept::Same)
 }
 
 // A header that ended.
-fn opens(t: Trail, taken: usize, o: Opening) -> Trailed
+fn opens(t: Trail, taken: usize, o: Result<(u64, u16), Refusal>) -> Trailed
     ensures { Follows t result (λ w. opened_at w.map w.position w.rest w.start taken o) }
 {
     match o {
-        Opening::Record(size, kind) => {
+        Ok((size, kind)) => {
             let trail = Trail {
                 position: t.position,
                 rest: size,
@@ -364,23 +361,23 @@ fn opens(t: Trail, taken: usize, o: Opening) -> Trailed
             Trailed {
                 trail,
                 taken,
-                step: Step::Record(t.start, t.position, size, kind),
+                step: Ok(Step::Record(t.start, t.position, size, kind)),
                 kept: Kept::Same,
             }
         }
-        Opening::Refused(e) => at_stage(t, Stage::Stopped(e), taken, Step::Refused(e), Kept::Same),
+        Err(e) => at_stage(t, Stage::Stopped(e), taken, Err(e), Kept::Same),
     }
 }
 
 // What a header came to, the reader having had k of a piece of n octets; the trail stands behind those that were taken.
-pub fn behind_header(h: Headed, t: Trail, taken: usize, k: usize, n: usize) -> Trailed
+pub fn behind_header(h: Result<Headed, Refusal>, t: Trail, taken: usize, k: usize, n: usize) -> Trailed
     ensures { Follows t result (λ w. headed_walked h w.map w.position w.rest w.start taken k n) }
 {
     match h {
-        Headed::Goes => carries_on(t, taken, k, n),
-        Headed::Opens(o) => opens(t, taken, o),
-        Headed::Input => at_stage(t, Stage::Header, taken, Step::More, Kept::Same),
-        Headed::Shut(e) => at_stage(t, Stage::Stopped(e), taken, Step::Refused(e), Kept::Same),
+        Ok(Headed::Goes) => carries_on(t, taken, k, n),
+        Ok(Headed::Opens(o)) => opens(t, taken, o),
+        Ok(Headed::Input) => at_stage(t, Stage::Header, taken, Ok(Step::More), Kept::Same),
+        Err(e) => at_stage(t, Stage::Stopped(e), taken, Err(e), Kept::Same),
     }
 }
 
@@ -389,29 +386,29 @@ fn end_stage(t: Trail) -> Trailed
 {
     let stage = t.stage;
     match stage {
-        Stage::Between => at_stage(t, Stage::Ended, 0, Step::End, Kept::Same),
+        Stage::Between => at_stage(t, Stage::Ended, 0, Ok(Step::End), Kept::Same),
         Stage::Header => stop_inside(t, Refusal::CutShort),
         Stage::Body => stop(t, Refusal::CutShort),
         Stage::Cr => stop(t, Refusal::CutShort),
         Stage::Lf => stop(t, Refusal::CutShort),
         Stage::LastCr => stop(t, Refusal::CutShort),
         Stage::LastLf => stop(t, Refusal::CutShort),
-        Stage::Ended => stand(t, Step::End),
-        Stage::Stopped(e) => stand(t, Step::Refused(e)),
+        Stage::Ended => stand(t, Ok(Step::End)),
+        Stage::Stopped(e) => stand(t, Err(e)),
     }
 }
 
 // The file's end; c is what the map's first checks say.
-pub fn end_trail(t: Trail, c: Checked) -> Trailed
+pub fn end_trail(t: Trail, c: Result<(), Refusal>) -> Trailed
     ensures { Ends t c result }
 {
     let stage = t.stage;
     match rests(stage) {
-        Resting::Stopped(e) => stand(t, Step::Refused(e)),
-        Resting::Ended => stand(t, Step::End),
-        Resting::Walks => match check_rest(t.rest, c) {
-            Checked::Fine => end_stage(t),
-            Checked::Refused(e) => stop(t, e),
+        Err(e) => stand(t, Err(e)),
+        Ok(false) => stand(t, Ok(Step::End)),
+        Ok(true) => match check_rest(t.rest, c) {
+            Ok(()) => end_stage(t),
+            Err(e) => stop(t, e),
         },
     }
 }

@@ -1,15 +1,13 @@
 -- The lines of the written form: how long they are, and where they are written. Assumes nothing.
+use Rattle.std.specs.Prelude.{None, Option, Some}
 use mathlib.Core.Path.{◌≡◌, refl, ap, ◌∙◌}
 use mathlib.Core.List.{List, [], ◌∷◌, ◌++◌, append_assoc, map}
-use mathlib.Core.Option.{some}
 use Prim.Native.Nat.{ℕ, ◌+◌, ◌≤◌}
 use native.Mathlib.Omega.{arith}
 use lib.ListN.{length, length-append}
 use Rattle.maps.specs.Places.{at}
 use Rattle.maps.specs.declared.Field.{Field}
 use Rattle.maps.specs.declared.Place.{Place}
-use Rattle.maps.specs.declared.Status.{Status}
-use Rattle.maps.specs.declared.Status.TheVariants.{Absent, At}
 use Rattle.maps.specs.Said.{pair_at, status_at}
 use Rattle.writes.specs.Written.{Put, pair_line, pair_lines, status_line, crlf}
 use Rattle.writes.proofs.PutLaws.{Writing, write_step, write_end}
@@ -33,23 +31,23 @@ full_length k v e =
     ap length (pair_full k v e) ∙ length-append k ((58 ∷ 32 ∷ []) ++ (v ++ crlf)) ∙
     (let z : length (v ++ crlf) ≡ length v + 2 = length-append v crlf in omega arith)
 
-pub status_bare : (t : List ℕ) → length t ≡ 0 → status_line (some t) ≡ []
+pub status_bare : (t : List ℕ) → length t ≡ 0 → status_line (Some t) ≡ []
 unfolding status_line
 status_bare [] e = refl
 status_bare (x ∷ xs) e = absurd (omega arith)
 
-pub status_full : (t : List ℕ) → (length t ≡ 0 → ⊥) → status_line (some t) ≡ t ++ crlf
+pub status_full : (t : List ℕ) → (length t ≡ 0 → ⊥) → status_line (Some t) ≡ t ++ crlf
 unfolding status_line
 status_full [] e = absurd (e refl)
 status_full (x ∷ xs) e = refl
 
 -- the status line, by what the status is
-module _ (b s : List ℕ) (st : Status) where
-  pub line_none : st ≡ Absent → status_line (status_at b s st) ≡ []
+module _ (b s : List ℕ) (st : Option Place) where
+  pub line_none : st ≡ None → status_line (status_at b s st) ≡ []
   unfolding status_line
   line_none e = rw e
 
-  module _ (p : Place) (r : List ℕ) (e : st ≡ At p) (f : r ≡ at b s p) where
+  module _ (p : Place) (r : List ℕ) (e : st ≡ Some p) (f : r ≡ at b s p) where
     pub line_bare : length r ≡ 0 → status_line (status_at b s st) ≡ []
     line_bare z = rw (e, ← f) (status_bare r z)
 

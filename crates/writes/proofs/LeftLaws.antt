@@ -1,4 +1,5 @@
 -- A refused write leaves the output. Assumes nothing.
+use Rattle.std.specs.Prelude.{Err, Ok, Result, ⊤}
 use mathlib.Core.Path.{◌≡◌, refl, sym, ap}
 use mathlib.Core.Bool.{Bool, true, false, false≢true}
 use mathlib.Core.List.{List}
@@ -6,29 +7,25 @@ use Prim.Native.Nat.{ℕ}
 use Rattle.leaves.proofs.ChoiceLaws.{by_if}
 use Rattle.leaves.specs.declared.refusals.Refusal.{Refusal}
 use Rattle.maps.specs.Good.{checked_done, unless}
-use Rattle.maps.specs.declared.Checked.{Checked}
-use Rattle.maps.specs.declared.Checked.TheVariants.{Fine, Refused as Bad}
 use Rattle.maps.specs.declared.HeaderMap.{HeaderMap}
 use Rattle.writes.specs.Written.{Writing, refuses, giving, writing, rebuilding}
-use Rattle.writes.specs.declared.Wrote.{Wrote}
-use Rattle.writes.specs.declared.Wrote.TheVariants.{Count, Refused}
 
-abbrev counts : Wrote → Bool
-counts (Count n) = true
-counts (Refused x) = false
+abbrev counts : Result ℕ Refusal → Bool
+counts (Ok n) = true
+counts (Err x) = false
 
 module _ (d : List ℕ) (x : Refusal) where
   -- what a call that was refused by x gives leaves the output
   abbrev Left : Writing → Type 0
-  Left g = g.result ≡ Refused x → g.out ≡ d
+  Left g = g.result ≡ Err x → g.out ≡ d
 
   giving_left : (t : List ℕ) → Left (giving d t)
   unfolding giving
   giving_left t = by_if Left _ _ _ (λ e h. refl) (λ e h. absurd (false≢true (sym (ap counts h))))
 
-  by_check : (c : Checked) (t : List ℕ) → Left (unless c (refuses d) (giving d t))
-  by_check Fine t h = giving_left t h
-  by_check (Bad y) t h = refl
+  by_check : (c : Result ⊤ Refusal) (t : List ℕ) → Left (unless c (refuses d) (giving d t))
+  by_check (Ok tt) t h = giving_left t h
+  by_check (Err y) t h = refl
 
   module _ (m : HeaderMap) (b s : List ℕ) where
     pub write_left : Left (writing m b s d)

@@ -1,6 +1,5 @@
 -- The written form of a map, and what the calls that write give. Assumes nothing.
-use Rattle.std.specs.Prelude.{◌≡◌, Bool, true, false, List, [], ◌∷◌, ◌++◌, ℕ, ◌+◌, ltb, length, take}
-use Rattle.std.proofs.Math.Option.{Option, none, some}
+use Rattle.std.specs.Prelude.{◌≡◌, Bool, true, false, List, [], ◌∷◌, ◌++◌, ℕ, ◌+◌, ltb, length, take, Err, None, Ok, Option, Result, Some}
 use Rattle.leaves.specs.Choice.{when◌then◌else◌}
 use Rattle.leaves.specs.Paste.{pasted, lay}
 use Rattle.leaves.specs.declared.refusals.Refusal.{Refusal}
@@ -8,8 +7,6 @@ use Rattle.leaves.specs.Refusals.{refusal}
 use Rattle.maps.specs.Good.{checked_done, unless}
 use Rattle.maps.specs.declared.HeaderMap.{HeaderMap}
 use Rattle.maps.specs.Said.{Pair, Said, saying}
-use Rattle.writes.specs.declared.Wrote.{Wrote}
-use Rattle.writes.specs.declared.Wrote.TheVariants.{Count, Refused}
 
 abbrev pub crlf : List ℕ
 crlf = 13 ∷ 10 ∷ []
@@ -29,9 +26,9 @@ pair_lines (p ∷ ps) = pair_line p.key p.value ++ pair_lines ps
 
 -- "status and CR LF if the status is non-empty"
 unfoldable pub status_line : Option (List ℕ) → List ℕ
-status_line none = []
-status_line (some []) = []
-status_line (some (x ∷ xs)) = x ∷ xs ++ crlf
+status_line None = []
+status_line (Some []) = []
+status_line (Some (x ∷ xs)) = x ∷ xs ++ crlf
 
 -- "it rebuilds: status and CR LF if the status is non-empty; per field the key, colon, space (all three only if the key is
 -- non-empty), value, CR LF; then CR LF"
@@ -49,15 +46,15 @@ written m b s = when untouched m.edited m.count then take m.count b else rebuilt
 
 -- what a call that writes gives: the answer, and the output at its end
 pub record Writing : Type 0 where
-  pub result : Wrote
+  pub result : Result ℕ Refusal
   pub out : List ℕ
 
 abbrev pub refuses : List ℕ → Refusal → Writing
-refuses d x = record { result = Refused x; out = d }
+refuses d x = record { result = Err x; out = d }
 
 -- "8 output shorter than the written form"; "Both answer the count; output past it stays."
 unfoldable pub giving : List ℕ → List ℕ → Writing
-giving d t = when ltb (length d) (length t) then refuses d (refusal 8) else record { result = Count (length t); out = lay d t }
+giving d t = when ltb (length d) (length t) then refuses d (refusal 8) else record { result = Ok (length t); out = lay d t }
 
 -- "A rebuild call always rebuilds."
 unfoldable pub rebuilding : HeaderMap → List ℕ → List ℕ → List ℕ → Writing
@@ -67,7 +64,7 @@ unfoldable pub writing : HeaderMap → List ℕ → List ℕ → List ℕ → Wr
 writing m b s d = unless (checked_done m b s) (refuses d) (giving d (written m b s))
 
 -- the form of both contracts: the block and the store are only read, the answer and the output are those of one definition
-pub record IsWritten (g : Writing) (r : Wrote) (d : List ℕ) : Type 0 where
+pub record IsWritten (g : Writing) (r : Result ℕ Refusal) (d : List ℕ) : Type 0 where
   pub result : r ≡ g.result
   pub out : d ≡ g.out
 

@@ -5,14 +5,9 @@ ghost use Rattle.std.specs.Prelude.{◌≡◌, ◌∷◌, [], map, ◌+◌, ◌�
 ghost use Rattle.maps.specs.Said.{pair_at, status_at};
 ghost use Rattle.writes.specs.Written.{Put, pair_line, pair_lines, status_line, giving, rebuilding, untouched, writing, IsWritten};
 
+use maps::Place;
 use leaves::refusals::Refusal;
-use maps::{Checked, Field, HeaderMap, Status};
-
-#[derive(Clone, Copy)]
-pub enum Wrote {
-    Count(usize),
-    Refused(Refusal),
-}
+use maps::{Field, HeaderMap};
 
 // Writes a text over the output from at on; answers where it ends.
 fn put(out: &mut [u8], at: usize, text: &[u8]) -> usize
@@ -35,14 +30,14 @@ pub fn put_two(out: &mut [u8], at: usize, x: u8, y: u8) -> usize
 }
 
 // Writes a text over the output's start, if the output holds it; 8 if it does not.
-pub fn give(out: &mut [u8], text: &[u8]) -> Wrote
+pub fn give(out: &mut [u8], text: &[u8]) -> Result<usize, Refusal>
     ensures { IsWritten (giving out.old text.now) result out.new }
 {
     if out.len() < text.len() {
-        return Wrote::Refused(Refusal::ShortOutput);
+        return Err(Refusal::ShortOutput);
     }
     let k = put(out, 0, text);
-    Wrote::Count(k)
+    Ok(k)
 }
 
 // Key, colon, space (all three only if the key is not empty), value, CR LF.
@@ -115,12 +110,12 @@ fn put_fields<'a>(
 }
 
 // How long the status line is; 0 if the status is absent or empty.
-pub fn status_length<'a>(s: Status, block: &'a [u8], store: &'a [u8]) -> usize
+pub fn status_length<'a>(s: Option<Place>, block: &'a [u8], store: &'a [u8]) -> usize
     ensures { (result ≡ length (status_line (status_at block.now store.now s))) × (result ≤ 4294967297) }
 {
     match s {
-        Status::Absent => 0,
-        Status::At(p) => {
+        None => 0,
+        Some(p) => {
             let text = maps::part(block, store, p);
             if text.len() == 0 {
                 return 0;
@@ -131,13 +126,13 @@ pub fn status_length<'a>(s: Status, block: &'a [u8], store: &'a [u8]) -> usize
 }
 
 // Writes the status line over the output's start; answers where it ends.
-pub fn put_status<'a>(out: &mut [u8], s: Status, block: &'a [u8], store: &'a [u8]) -> usize
+pub fn put_status<'a>(out: &mut [u8], s: Option<Place>, block: &'a [u8], store: &'a [u8]) -> usize
     requires { length (status_line (status_at block.now store.now s)) ≤ length out.old }
     ensures { Put out.old out.new 0 result (status_line (status_at block.now store.now s)) }
 {
     match s {
-        Status::Absent => 0,
-        Status::At(p) => {
+        None => 0,
+        Some(p) => {
             let text = maps::part(block, store, p);
             if text.len() == 0 {
                 return 0;
@@ -149,12 +144,12 @@ pub fn put_status<'a>(out: &mut [u8], s: Status, block: &'a [u8], store: &'a [u8
 }
 
 // Status, fields and the blank line, whatever the map was read from.
-pub fn rebuild<'a>(m: HeaderMap, block: &'a [u8], store: &'a [u8], out: &mut [u8]) -> Wrote
+pub fn rebuild<'a>(m: HeaderMap, block: &'a [u8], store: &'a [u8], out: &mut [u8]) -> Result<usize, Refusal>
     ensures { IsWritten (rebuilding m block.now store.now out.old) result out.new }
 {
     let s = maps::check_done(m, block, store);
     match s {
-        Checked::Fine => {
+        Ok(()) => {
             let t = m.table;
             let n = m.fields;
             let status = m.status;
@@ -162,14 +157,14 @@ pub fn rebuild<'a>(m: HeaderMap, block: &'a [u8], store: &'a [u8], out: &mut [u8
             let b = fields_length(t, n, block, store);
             let size = a + b + 2;
             if out.len() < size {
-                return Wrote::Refused(Refusal::ShortOutput);
+                return Err(Refusal::ShortOutput);
             }
             let i = put_status(out, status, block, store);
             let j = put_fields(out, i, t, n, block, store);
             let k = put_two(out, j, 13, 10);
-            Wrote::Count(k)
+            Ok(k)
         }
-        Checked::Refused(x) => Wrote::Refused(x),
+        Err(x) => Err(x),
     }
 }
 
@@ -181,18 +176,18 @@ pub fn is_untouched(edited: bool, count: usize) -> bool
 }
 
 // The block as it was read, or the map rebuilt.
-pub fn write<'a>(m: HeaderMap, block: &'a [u8], store: &'a [u8], out: &mut [u8]) -> Wrote
+pub fn write<'a>(m: HeaderMap, block: &'a [u8], store: &'a [u8], out: &mut [u8]) -> Result<usize, Refusal>
     ensures { IsWritten (writing m block.now store.now out.old) result out.new }
 {
     let s = maps::check_done(m, block, store);
     match s {
-        Checked::Fine => {
+        Ok(()) => {
             let count = m.count;
             if is_untouched(m.edited, count) {
                 return give(out, &block[0..count]);
             }
             rebuild(m, block, store, out)
         }
-        Checked::Refused(x) => Wrote::Refused(x),
+        Err(x) => Err(x),
     }
 }

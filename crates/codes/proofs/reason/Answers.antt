@@ -6,12 +6,12 @@ use Rattle.codes.proofs.reason.Goals as goal
 
 pub slice_bounds-result-count : goal.slice_bounds-result-count
 slice_bounds-result-count c =
-    let e = told_at _ _ (sym c.reason_start-start.ensures ∙ c.in-Begins.is) in
+    let e = told_at _ _ (sym c.reason_start-start.ensures ∙ c.in-Some.is) in
     let w = start_within _ _ e in
     omega (arith, w)
 
 pub slice_bounds-result-start : goal.slice_bounds-result-start
 slice_bounds-result-start c =
-    let e = told_at _ _ (sym c.reason_start-start.ensures ∙ c.in-Begins.is) in
+    let e = told_at _ _ (sym c.reason_start-start.ensures ∙ c.in-Some.is) in
     let w = start_within _ _ e in
     omega (arith, w)

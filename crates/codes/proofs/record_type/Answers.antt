@@ -6,18 +6,18 @@ use Rattle.standard.specs.Names.{name_of}
 use mathlib.Core.Path.{sym, ◌∙◌}
 use Rattle.codes.proofs.record_type.Goals as goal
 
-pub returns-in-Sees : goal.returns-in-Sees
-returns-in-Sees c =
+pub returns-in-Ok-Some : goal.returns-in-Ok-Some
+returns-in-Ok-Some c =
     let a = c.args in
-    let e = sym c.sight-found.ensures ∙ c.in-Sees.is in
+    let e = sym c.sight-found.ensures ∙ c.in-Ok-Some.is in
     kind_found a.m a.block.now a.store.now _ _ _ (c.part-value.ensures.is ∙ sight_value a.m a.block.now a.store.now (name_of WarcType) 0 _ _ e) (sight_at a.m a.block.now a.store.now (name_of WarcType) 0 _ _ e) c.record_type-n.ensures
 
-pub returns-in-Missing : goal.returns-in-Missing
-returns-in-Missing c =
+pub returns-in-Ok-None : goal.returns-in-Ok-None
+returns-in-Ok-None c =
     let a = c.args in
-    kind_missing _ _ _ (sight_missing a.m a.block.now a.store.now (name_of WarcType) 0 (sym c.sight-found.ensures ∙ c.in-Missing.is))
+    kind_missing _ _ _ (sight_missing a.m a.block.now a.store.now (name_of WarcType) 0 (sym c.sight-found.ensures ∙ c.in-Ok-None.is))
 
-pub returns-in-Refused : goal.returns-in-Refused
-returns-in-Refused c =
+pub returns-in-Err : goal.returns-in-Err
+returns-in-Err c =
     let a = c.args in
-    kind_refused _ _ _ _ (sight_blind a.m a.block.now a.store.now (name_of WarcType) 0 _ (sym c.sight-found.ensures ∙ c.in-Refused.is))
+    kind_refused _ _ _ _ (sight_blind a.m a.block.now a.store.now (name_of WarcType) 0 _ (sym c.sight-found.ensures ∙ c.in-Err.is))

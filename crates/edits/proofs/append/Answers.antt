@@ -4,9 +4,9 @@ use Rattle.edits.proofs.EditLaws.{is_by, edit_refused, append_is}
 use mathlib.Core.Path.{sym, ◌∙◌}
 use Rattle.edits.proofs.append.Goals as goal
 
-pub returns-in-Fine : goal.returns-in-Fine
-returns-in-Fine c = is_by (append_is _ _ _ _ _ (sym c.in-Fine.is ∙ c.check_done-s.ensures)) c.put_at.ensures
+pub returns-in-Ok : goal.returns-in-Ok
+returns-in-Ok c = is_by (append_is _ _ _ _ _ (sym c.in-Ok.is ∙ c.check_done-s.ensures)) c.put_at.ensures
 
-pub returns-in-Refused : goal.returns-in-Refused
+pub returns-in-Err : goal.returns-in-Err
 unfolding appending
-returns-in-Refused c = edit_refused _ _ _ _ _ (sym c.in-Refused.is ∙ c.check_done-s.ensures)
+returns-in-Err c = edit_refused _ _ _ _ _ (sym c.in-Err.is ∙ c.check_done-s.ensures)

@@ -13,14 +13,14 @@ use Rattle.edits.proofs.set_status.Goals as goal
 pub overflow_sub-room : goal.overflow_sub-room
 overflow_sub-room c =
     let a = c.args in
-    let e = sym c.in-Fine.is ∙ c.check_done-s.ensures in
+    let e = sym c.in-Ok.is ∙ c.check_done-s.ensures in
     let w = ready_of _ a.m a.block.now a.store.now e in
     w.mark
 
 pub sanitise_into-n-requires : goal.sanitise_into-n-requires
 sanitise_into-n-requires c =
     let a = c.args in
-    let e = sym c.in-Fine.is ∙ c.check_done-s.ensures in
+    let e = sym c.in-Ok.is ∙ c.check_done-s.ensures in
     let w = ready_of _ a.m a.block.now a.store.now e in
     let k : c.sanitised_length-k.result ≡ length (sanitised true a.text.now) = c.sanitised_length-k.ensures in
     omega (arith, w.mark, w.store, c.if-k-room.true)
@@ -28,7 +28,7 @@ sanitise_into-n-requires c =
 pub in_store-place-requires : goal.in_store-place-requires
 in_store-place-requires c =
     let a = c.args in
-    let e = sym c.in-Fine.is ∙ c.check_done-s.ensures in
+    let e = sym c.in-Ok.is ∙ c.check_done-s.ensures in
     let w = ready_of _ a.m a.block.now a.store.now e in
     let k : c.sanitised_length-k.result ≡ length (sanitised true a.text.now) = c.sanitised_length-k.ensures in
     (omega (arith, w.mark, w.most), omega (arith, w.mark, w.most, c.if-k-room.true, c.sanitise_into-n.ensures.0))
@@ -36,7 +36,7 @@ in_store-place-requires c =
 pub returns-then-k-room : goal.returns-then-k-room
 returns-then-k-room c =
     let a = c.args in
-    let e = sym c.in-Fine.is ∙ c.check_done-s.ensures in
+    let e = sym c.in-Ok.is ∙ c.check_done-s.ensures in
     let w = ready_of _ a.m a.block.now a.store.now e in
     let k : c.sanitised_length-k.result ≡ length (sanitised true a.text.now) = c.sanitised_length-k.ensures in
     let g : a.m.mark + length (sanitised true a.text.now) ≤ a.m.room = omega (arith, w.mark, c.if-k-room.true) in
@@ -46,12 +46,12 @@ returns-then-k-room c =
 pub returns-else-k-room : goal.returns-else-k-room
 returns-else-k-room c =
     let a = c.args in
-    let e = sym c.in-Fine.is ∙ c.check_done-s.ensures in
+    let e = sym c.in-Ok.is ∙ c.check_done-s.ensures in
     let w = ready_of _ a.m a.block.now a.store.now e in
     let k : c.sanitised_length-k.result ≡ length (sanitised true a.text.now) = c.sanitised_length-k.ensures in
     let g : a.m.room < a.m.mark + length (sanitised true a.text.now) = omega (arith, w.mark, c.if-k-room.false) in
     status_room a.m a.block.now a.store.now a.text.now e w.few g
 
-pub returns-in-Refused : goal.returns-in-Refused
+pub returns-in-Err : goal.returns-in-Err
 unfolding statusing
-returns-in-Refused c = edit_refused _ _ _ _ _ (sym c.in-Refused.is ∙ c.check_done-s.ensures)
+returns-in-Err c = edit_refused _ _ _ _ _ (sym c.in-Err.is ∙ c.check_done-s.ensures)

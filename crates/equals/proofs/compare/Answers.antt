@@ -7,8 +7,8 @@ use Rattle.equals.proofs.compare.Goals as goal
 pub same_fields-requires : goal.same_fields-requires
 same_fields-requires c =
     let a = c.args in
-    let e = sym c.in-Fine.is ∙ c.check_done-one.ensures in
-    let f = sym c.in-Fine-two.is ∙ c.check_done-two.ensures in
+    let e = sym c.in-Ok.is ∙ c.check_done-one.ensures in
+    let f = sym c.in-Ok-two.is ∙ c.check_done-two.ensures in
     let w = ready_of _ a.m a.b.now a.s.now e in
     let w₂ = ready_of _ a.k a.c.now a.z.now f in
     w.few
@@ -16,8 +16,8 @@ same_fields-requires c =
 pub returns-then-same_fields : goal.returns-then-same_fields
 returns-then-same_fields c =
     let a = c.args in
-    let e = sym c.in-Fine.is ∙ c.check_done-one.ensures in
-    let f = sym c.in-Fine-two.is ∙ c.check_done-two.ensures in
+    let e = sym c.in-Ok.is ∙ c.check_done-one.ensures in
+    let f = sym c.in-Ok-two.is ∙ c.check_done-two.ensures in
     let w = ready_of _ a.m a.b.now a.s.now e in
     let w₂ = ready_of _ a.k a.c.now a.z.now f in
     same_yes a.m a.b.now a.s.now a.k a.c.now a.z.now e f (sym c.same_status.ensures ∙ c.if-same_status.true) c.if-n-k.true (sym c.same_fields.ensures ∙ c.if-same_fields.true)
@@ -25,8 +25,8 @@ returns-then-same_fields c =
 pub returns-else-same_fields : goal.returns-else-same_fields
 returns-else-same_fields c =
     let a = c.args in
-    let e = sym c.in-Fine.is ∙ c.check_done-one.ensures in
-    let f = sym c.in-Fine-two.is ∙ c.check_done-two.ensures in
+    let e = sym c.in-Ok.is ∙ c.check_done-one.ensures in
+    let f = sym c.in-Ok-two.is ∙ c.check_done-two.ensures in
     let w = ready_of _ a.m a.b.now a.s.now e in
     let w₂ = ready_of _ a.k a.c.now a.z.now f in
     same_no a.m a.b.now a.s.now a.k a.c.now a.z.now e f (sym c.same_status.ensures ∙ c.if-same_status.true) c.if-n-k.true (sym c.same_fields.ensures ∙ c.if-same_fields.false)
@@ -34,8 +34,8 @@ returns-else-same_fields c =
 pub returns-else-same_status : goal.returns-else-same_status
 returns-else-same_status c =
     let a = c.args in
-    let e = sym c.in-Fine.is ∙ c.check_done-one.ensures in
-    let f = sym c.in-Fine-two.is ∙ c.check_done-two.ensures in
+    let e = sym c.in-Ok.is ∙ c.check_done-one.ensures in
+    let f = sym c.in-Ok-two.is ∙ c.check_done-two.ensures in
     let w = ready_of _ a.m a.b.now a.s.now e in
     let w₂ = ready_of _ a.k a.c.now a.z.now f in
     status_differs a.m a.b.now a.s.now a.k a.c.now a.z.now e f (sym c.same_status.ensures ∙ c.if-same_status.false)
@@ -43,14 +43,14 @@ returns-else-same_status c =
 pub returns-else-n-k : goal.returns-else-n-k
 returns-else-n-k c =
     let a = c.args in
-    let e = sym c.in-Fine.is ∙ c.check_done-one.ensures in
-    let f = sym c.in-Fine-two.is ∙ c.check_done-two.ensures in
+    let e = sym c.in-Ok.is ∙ c.check_done-one.ensures in
+    let f = sym c.in-Ok-two.is ∙ c.check_done-two.ensures in
     let w = ready_of _ a.m a.b.now a.s.now e in
     let w₂ = ready_of _ a.k a.c.now a.z.now f in
     counts_differ a.m a.b.now a.s.now a.k a.c.now a.z.now e f (c.well_formed.0.1.1.0.1.0.1) (c.well_formed.1.1.1.0.1.1.0.1.0.1) w.few w₂.few c.if-n-k.false
 
-pub returns-in-Refused-two : goal.returns-in-Refused-two
-returns-in-Refused-two c = second_refused _ _ _ _ _ _ (sym c.in-Fine.is ∙ c.check_done-one.ensures) _ (sym c.in-Refused-two.is ∙ c.check_done-two.ensures)
+pub returns-in-Err-two : goal.returns-in-Err-two
+returns-in-Err-two c = second_refused _ _ _ _ _ _ (sym c.in-Ok.is ∙ c.check_done-one.ensures) _ (sym c.in-Err-two.is ∙ c.check_done-two.ensures)
 
-pub returns-in-Refused : goal.returns-in-Refused
-returns-in-Refused c = first_refused _ _ _ _ _ _ _ (sym c.in-Refused.is ∙ c.check_done-one.ensures)
+pub returns-in-Err : goal.returns-in-Err
+returns-in-Err c = first_refused _ _ _ _ _ _ _ (sym c.in-Err.is ∙ c.check_done-one.ensures)

@@ -7,14 +7,14 @@ use Rattle.lent_codes.proofs.find.Goals as goal
 
 pub find-requires : goal.find-requires
 find-requires c =
-    (find_few c.args.t.now c.args.h c.args.block.now c.args.store.now c.args.name.now (sym c.in-Fine.is ∙ c.check_done-s.ensures), c.requires)
+    (find_few c.args.t.now c.args.h c.args.block.now c.args.store.now c.args.name.now (sym c.in-Ok.is ∙ c.check_done-s.ensures), c.requires)
 
-pub returns-in-Fine : goal.returns-in-Fine
-returns-in-Fine c =
+pub returns-in-Ok : goal.returns-in-Ok
+returns-in-Ok c =
     let s = c.args in
-    c.find.ensures ∙ find_lent s.t.now s.h s.block.now s.store.now s.name.now (sym c.in-Fine.is ∙ c.check_done-s.ensures)
+    c.find.ensures ∙ find_lent s.t.now s.h s.block.now s.store.now s.name.now (sym c.in-Ok.is ∙ c.check_done-s.ensures)
 
-pub returns-in-Refused : goal.returns-in-Refused
-returns-in-Refused c =
+pub returns-in-Err : goal.returns-in-Err
+returns-in-Err c =
     let s = c.args in
-    sym (find_refused (map_in s.t.now s.h) s.block.now s.store.now s.name.now 0 _ (sym c.in-Refused.is ∙ c.check_done-s.ensures))
+    sym (find_refused (map_in s.t.now s.h) s.block.now s.store.now s.name.now 0 _ (sym c.in-Err.is ∙ c.check_done-s.ensures))

@@ -9,20 +9,20 @@ use Rattle.lent_codes.proofs.record_type.Goals as goal
 
 pub value-text-requires : goal.value-text-requires
 value-text-requires c =
-    (found_small c.args.t.now c.args.h c.args.block.now c.args.store.now (name_of WarcType) _ (sym c.find-found.ensures ∙ c.in-Nth.is), c.requires)
+    (found_small c.args.t.now c.args.h c.args.block.now c.args.store.now (name_of WarcType) _ (sym c.find-found.ensures ∙ c.in-Ok-Some.is), c.requires)
 
-pub returns-in-Nth : goal.returns-in-Nth
-returns-in-Nth c =
+pub returns-in-Ok-Some : goal.returns-in-Ok-Some
+returns-in-Ok-Some c =
     let s = c.args in
-    let f = sym c.find-found.ensures ∙ c.in-Nth.is in
+    let f = sym c.find-found.ensures ∙ c.in-Ok-Some.is in
     kind_found (map_in s.t.now s.h) s.block.now s.store.now _ _ _ (c.value-text.ensures ∙ found_value s.t.now s.h s.block.now s.store.now (name_of WarcType) _ f) f c.record_type-n.ensures
 
-pub returns-in-Missing : goal.returns-in-Missing
-returns-in-Missing c =
+pub returns-in-Ok-None : goal.returns-in-Ok-None
+returns-in-Ok-None c =
     let s = c.args in
-    kind_missing (map_in s.t.now s.h) s.block.now s.store.now (sym c.find-found.ensures ∙ c.in-Missing.is)
+    kind_missing (map_in s.t.now s.h) s.block.now s.store.now (sym c.find-found.ensures ∙ c.in-Ok-None.is)
 
-pub returns-in-Refused : goal.returns-in-Refused
-returns-in-Refused c =
+pub returns-in-Err : goal.returns-in-Err
+returns-in-Err c =
     let s = c.args in
-    kind_refused (map_in s.t.now s.h) s.block.now s.store.now _ (sym c.find-found.ensures ∙ c.in-Refused.is)
+    kind_refused (map_in s.t.now s.h) s.block.now s.store.now _ (sym c.find-found.ensures ∙ c.in-Err.is)

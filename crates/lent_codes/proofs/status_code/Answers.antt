@@ -4,12 +4,12 @@ use Rattle.lent.specs.Table.{map_in}
 use mathlib.Core.Path.{sym, ◌∙◌}
 use Rattle.lent_codes.proofs.status_code.Goals as goal
 
-pub returns-in-Fine : goal.returns-in-Fine
-returns-in-Fine c =
+pub returns-in-Ok : goal.returns-in-Ok
+returns-in-Ok c =
     let s = c.args in
-    code_fine (map_in s.t.now s.h) s.block.now s.store.now (sym c.in-Fine.is ∙ c.check_done-s.ensures) _ c.status_text-text.ensures _ c.code_of.ensures
+    code_fine (map_in s.t.now s.h) s.block.now s.store.now (sym c.in-Ok.is ∙ c.check_done-s.ensures) _ c.status_text-text.ensures _ c.code_of.ensures
 
-pub returns-in-Refused : goal.returns-in-Refused
-returns-in-Refused c =
+pub returns-in-Err : goal.returns-in-Err
+returns-in-Err c =
     let s = c.args in
-    code_refused (map_in s.t.now s.h) s.block.now s.store.now _ (sym c.in-Refused.is ∙ c.check_done-s.ensures)
+    code_refused (map_in s.t.now s.h) s.block.now s.store.now _ (sym c.in-Err.is ∙ c.check_done-s.ensures)

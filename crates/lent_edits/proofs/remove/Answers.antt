@@ -11,16 +11,16 @@ use Rattle.lent_edits.proofs.remove.Goals as goal
 pub compact-fields-requires : goal.compact-fields-requires
 compact-fields-requires c =
     let a = c.args in
-    let e = sym c.in-Fine.is ∙ c.check_done-s.ensures in
+    let e = sym c.in-Ok.is ∙ c.check_done-s.ensures in
     let w = ready_of _ (map_in a.t.now a.h) a.block.now a.store.now e in
     (search rules, w.few, c.requires, all_fit w)
 
-pub returns-in-Fine : goal.returns-in-Fine
-returns-in-Fine c =
+pub returns-in-Ok : goal.returns-in-Ok
+returns-in-Ok c =
     let a = c.args in
-    let e = sym c.in-Fine.is ∙ c.check_done-s.ensures in
+    let e = sym c.in-Ok.is ∙ c.check_done-s.ensures in
     remove_is (map_in a.t.now a.h) a.block.now a.store.now a.key.now e _ c.compact-fields.ensures _ c.changed-edited.ensures
 
-pub returns-in-Refused : goal.returns-in-Refused
+pub returns-in-Err : goal.returns-in-Err
 unfolding removing
-returns-in-Refused c = edit_refused _ _ _ _ _ (sym c.in-Refused.is ∙ c.check_done-s.ensures)
+returns-in-Err c = edit_refused _ _ _ _ _ (sym c.in-Err.is ∙ c.check_done-s.ensures)

@@ -9,13 +9,13 @@ use Rattle.lent_edits.proofs.set.Goals as goal
 pub first_at-at-requires : goal.first_at-at-requires
 first_at-at-requires c =
     let a = c.args in
-    let e = sym c.in-Fine.is ∙ c.check_done-s.ensures in
+    let e = sym c.in-Ok.is ∙ c.check_done-s.ensures in
     let w = ready_of _ (map_in a.t.now a.h) a.block.now a.store.now e in
     (w.few, c.requires)
 
-pub returns-in-Fine : goal.returns-in-Fine
-returns-in-Fine c = is_by (set_is _ _ _ _ _ (sym c.in-Fine.is ∙ c.check_done-s.ensures) _ c.first_at-at.ensures.0) c.put_at.ensures
+pub returns-in-Ok : goal.returns-in-Ok
+returns-in-Ok c = is_by (set_is _ _ _ _ _ (sym c.in-Ok.is ∙ c.check_done-s.ensures) _ c.first_at-at.ensures.0) c.put_at.ensures
 
-pub returns-in-Refused : goal.returns-in-Refused
+pub returns-in-Err : goal.returns-in-Err
 unfolding setting
-returns-in-Refused c = edit_refused _ _ _ _ _ (sym c.in-Refused.is ∙ c.check_done-s.ensures)
+returns-in-Err c = edit_refused _ _ _ _ _ (sym c.in-Err.is ∙ c.check_done-s.ensures)

@@ -1,8 +1,8 @@
 -- `lent_reader::finish` meets its contract. Assumes nothing.
+use Rattle.std.specs.Prelude.{Err, Ok}
 use mathlib.Core.Path.{◌≡◌, refl, sym, ◌∙◌}
 use Rattle.maps.proofs.GoodLaws.{ready_of}
 use Rattle.maps.specs.Good.{checked_reading}
-use Rattle.maps.specs.declared.Checked.TheVariants.{Fine, Refused as Refuses}
 use Rattle.reader.proofs.CallLaws.{finishing_goes, finishing_stops}
 use Rattle.lent.specs.Table.{map_in}
 use Rattle.lent_reader.proofs.finish.Goals as goal
@@ -10,17 +10,17 @@ use Rattle.lent_reader.proofs.finish.Goals as goal
 pub finish_line-requires : goal.finish_line-requires
 finish_line-requires c =
     let a = c.args in
-    let q : Fine ≡ checked_reading (map_in a.t.now a.h) a.block.now a.store.now = sym c.in-Fine.is ∙ rw c.is_reading-ready.ensures at c.check.ensures in
+    let q : Ok tt ≡ checked_reading (map_in a.t.now a.h) a.block.now a.store.now = sym c.in-Ok.is ∙ rw c.is_reading-ready.ensures at c.check.ensures in
     (c.requires, ready_of _ (map_in a.t.now a.h) a.block.now a.store.now q)
 
-pub returns-in-Fine : goal.returns-in-Fine
-returns-in-Fine c =
+pub returns-in-Ok : goal.returns-in-Ok
+returns-in-Ok c =
     let a = c.args in
-    let q : Fine ≡ checked_reading (map_in a.t.now a.h) a.block.now a.store.now = sym c.in-Fine.is ∙ rw c.is_reading-ready.ensures at c.check.ensures in
+    let q : Ok tt ≡ checked_reading (map_in a.t.now a.h) a.block.now a.store.now = sym c.in-Ok.is ∙ rw c.is_reading-ready.ensures at c.check.ensures in
     rw (finishing_goes (map_in a.t.now a.h) a.block.now a.store.now q) c.finish_line.ensures
 
-pub returns-in-Refused : goal.returns-in-Refused
-returns-in-Refused c =
+pub returns-in-Err : goal.returns-in-Err
+returns-in-Err c =
     let a = c.args in
-    let q : Refuses _ ≡ checked_reading (map_in a.t.now a.h) a.block.now a.store.now = sym c.in-Refused.is ∙ rw c.is_reading-ready.ensures at c.check.ensures in
+    let q : Err _ ≡ checked_reading (map_in a.t.now a.h) a.block.now a.store.now = sym c.in-Err.is ∙ rw c.is_reading-ready.ensures at c.check.ensures in
     rw (finishing_stops (map_in a.t.now a.h) a.block.now a.store.now _ q) (record { result = refl; block = refl; store = refl })

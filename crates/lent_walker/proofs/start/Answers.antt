@@ -6,12 +6,12 @@ use Rattle.walker.proofs.WalkLaws.{starts, start_refused}
 use mathlib.Core.Path.{ap}
 use Rattle.lent_walker.proofs.start.Goals as goal
 
-pub returns-in-Fine : goal.returns-in-Fine
-returns-in-Fine c =
+pub returns-in-Ok : goal.returns-in-Ok
+returns-in-Ok c =
     let a = c.args in
-    λ T. starts (under T a.h) a.room a.position a.block.now a.store.now (made_in T c.begin-made.result) (c.begin-made.ensures T).result c.in-Fine.is _ (ap (λ (x : Head). under T x) c.kept_head-head.ensures)
+    λ T. starts (under T a.h) a.room a.position a.block.now a.store.now (made_in T c.begin-made.result) (c.begin-made.ensures T).result c.in-Ok.is _ (ap (λ (x : Head). under T x) c.kept_head-head.ensures)
 
-pub returns-in-Refused : goal.returns-in-Refused
-returns-in-Refused c =
+pub returns-in-Err : goal.returns-in-Err
+returns-in-Err c =
     let a = c.args in
-    λ T. start_refused (under T a.h) a.room a.position a.block.now a.store.now (made_in T c.begin-made.result) (c.begin-made.ensures T).result _ c.in-Refused.is
+    λ T. start_refused (under T a.h) a.room a.position a.block.now a.store.now (made_in T c.begin-made.result) (c.begin-made.ensures T).result _ c.in-Err.is

@@ -3,17 +3,17 @@ use Rattle.lookups.proofs.FoundLaws.{sight_at, sight_missing, sight_blind}
 use mathlib.Core.Path.{sym, ◌∙◌}
 use Rattle.lookups.proofs.find.Goals as goal
 
-pub returns-in-Sees : goal.returns-in-Sees
-returns-in-Sees c =
+pub returns-in-Ok-Some : goal.returns-in-Ok-Some
+returns-in-Ok-Some c =
     let a = c.args in
-    sym (sight_at a.m a.block.now a.store.now a.name.now a.from _ _ (sym c.sight-s.ensures ∙ c.in-Sees.is))
+    sym (sight_at a.m a.block.now a.store.now a.name.now a.from _ _ (sym c.sight-s.ensures ∙ c.in-Ok-Some.is))
 
-pub returns-in-Missing : goal.returns-in-Missing
-returns-in-Missing c =
+pub returns-in-Ok-None : goal.returns-in-Ok-None
+returns-in-Ok-None c =
     let a = c.args in
-    sym (sight_missing a.m a.block.now a.store.now a.name.now a.from (sym c.sight-s.ensures ∙ c.in-Missing.is))
+    sym (sight_missing a.m a.block.now a.store.now a.name.now a.from (sym c.sight-s.ensures ∙ c.in-Ok-None.is))
 
-pub returns-in-Refused : goal.returns-in-Refused
-returns-in-Refused c =
+pub returns-in-Err : goal.returns-in-Err
+returns-in-Err c =
     let a = c.args in
-    sym (sight_blind a.m a.block.now a.store.now a.name.now a.from _ (sym c.sight-s.ensures ∙ c.in-Refused.is))
+    sym (sight_blind a.m a.block.now a.store.now a.name.now a.from _ (sym c.sight-s.ensures ∙ c.in-Err.is))

@@ -3,8 +3,8 @@ use Rattle.lookups.proofs.HandLaws.{status_fine, status_refused}
 use mathlib.Core.Path.{sym, ◌∙◌}
 use Rattle.lookups.proofs.shown_status.Goals as goal
 
-pub returns-in-Fine : goal.returns-in-Fine
-returns-in-Fine c = sym (status_fine _ _ _ (sym c.in-Fine.is ∙ c.check_done-s.ensures))
+pub returns-in-Ok : goal.returns-in-Ok
+returns-in-Ok c = sym (status_fine _ _ _ (sym c.in-Ok.is ∙ c.check_done-s.ensures))
 
-pub returns-in-Refused : goal.returns-in-Refused
-returns-in-Refused c = sym (status_refused _ _ _ _ (sym c.in-Refused.is ∙ c.check_done-s.ensures))
+pub returns-in-Err : goal.returns-in-Err
+returns-in-Err c = sym (status_refused _ _ _ _ (sym c.in-Err.is ∙ c.check_done-s.ensures))

@@ -7,10 +7,10 @@ use Rattle.lookups.proofs.sight.Goals as goal
 pub seek-requires : goal.seek-requires
 seek-requires c =
     let a = c.args in
-    (ready_of _ a.m a.block.now a.store.now (sym c.in-Fine.is ∙ c.check_done-s.ensures)).few
+    (ready_of _ a.m a.block.now a.store.now (sym c.in-Ok.is ∙ c.check_done-s.ensures)).few
 
-pub returns-in-Fine : goal.returns-in-Fine
-returns-in-Fine c = c.seek.ensures ∙ sym (sight_fine _ _ _ _ _ (sym c.in-Fine.is ∙ c.check_done-s.ensures))
+pub returns-in-Ok : goal.returns-in-Ok
+returns-in-Ok c = c.seek.ensures ∙ sym (sight_fine _ _ _ _ _ (sym c.in-Ok.is ∙ c.check_done-s.ensures))
 
-pub returns-in-Refused : goal.returns-in-Refused
-returns-in-Refused c = sym (sight_refused _ _ _ _ _ _ (sym c.in-Refused.is ∙ c.check_done-s.ensures))
+pub returns-in-Err : goal.returns-in-Err
+returns-in-Err c = sym (sight_refused _ _ _ _ _ _ (sym c.in-Err.is ∙ c.check_done-s.ensures))

@@ -5,10 +5,10 @@ use Rattle.lookups.proofs.HandLaws.{hands_part, status_within, hands_nothing}
 use mathlib.Core.Path.{sym, ap, ◌∙◌, refl}
 use Rattle.lookups.proofs.status.Goals as goal
 
-pub returns-in-At : goal.returns-in-At
-returns-in-At c =
-    let e = sym c.shown_status-s.ensures ∙ c.in-At.is in
+pub returns-in-Some : goal.returns-in-Some
+returns-in-Some c =
+    let e = sym c.shown_status-s.ensures ∙ c.in-Some.is in
     hands_part _ _ _ _ _ _ (ap status_in e) (status_within _ _ _ _ e) c.part.ensures
 
-pub returns-in-Absent : goal.returns-in-Absent
-returns-in-Absent c = hands_nothing _ _ _ _ _ _ (ap status_in (sym c.shown_status-s.ensures ∙ c.in-Absent.is)) refl (refl, omega arith)
+pub returns-in-None : goal.returns-in-None
+returns-in-None c = hands_nothing _ _ _ _ _ _ (ap status_in (sym c.shown_status-s.ensures ∙ c.in-None.is)) refl (refl, omega arith)

@@ -4,7 +4,7 @@ use Rattle.lookups.proofs.HandLaws.{hands_part, slot_within}
 use mathlib.Core.Path.{sym, ap, ◌∙◌}
 use Rattle.lookups.proofs.value.Goals as goal
 
-pub returns-in-Holds : goal.returns-in-Holds
-returns-in-Holds c =
-    let e = sym c.slot_at-s.ensures ∙ c.in-Holds.is in
+pub returns-in-Some : goal.returns-in-Some
+returns-in-Some c =
+    let e = sym c.slot_at-s.ensures ∙ c.in-Some.is in
     hands_part _ _ _ _ _ _ (ap value_in e) (slot_within _ _ _ _ _ e).1 c.part.ensures

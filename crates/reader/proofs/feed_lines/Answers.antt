@@ -11,46 +11,46 @@ handle_next-handled-requires c =
     let l = c.loop-going in
     (able (seated l.t l.h l.invariant.1.held c.last_of-slot.ensures), l.invariant.1.held.read)
 
-pub loop-going-smaller-in-Nothing : goal.loop-going-smaller-in-Nothing
-loop-going-smaller-in-Nothing c =
+pub loop-going-smaller-in-Ok-Nothing : goal.loop-going-smaller-in-Ok-Nothing
+loop-going-smaller-in-Ok-Nothing c =
     let l = c.loop-going in
     handled_nears l.t l.h l.invariant.1 c.loop-going-test.true c.last_of-slot.ensures c.handle_next-handled.ensures
 
-pub loop-going-preserved-in-Nothing : goal.loop-going-preserved-in-Nothing
-loop-going-preserved-in-Nothing c =
+pub loop-going-preserved-in-Ok-Nothing : goal.loop-going-preserved-in-Ok-Nothing
+loop-going-preserved-in-Ok-Nothing c =
     let l = c.loop-going in
-    (c.head_after-left.ensures, handled_on l.t l.h l.invariant.1 c.loop-going-test.true c.last_of-slot.ensures c.handle_next-handled.ensures c.in-Nothing.is)
+    (c.head_after-left.ensures, handled_on l.t l.h l.invariant.1 c.loop-going-test.true c.last_of-slot.ensures c.handle_next-handled.ensures c.in-Ok-Nothing.is)
 
-pub loop-going-smaller-in-Status-1 : goal.loop-going-smaller-in-Status-1
-loop-going-smaller-in-Status-1 c =
+pub loop-going-smaller-in-Ok-Status-1 : goal.loop-going-smaller-in-Ok-Status-1
+loop-going-smaller-in-Ok-Status-1 c =
     let l = c.loop-going in
     handled_nears l.t l.h l.invariant.1 c.loop-going-test.true c.last_of-slot.ensures c.handle_next-handled.ensures
 
-pub loop-going-preserved-in-Status-1 : goal.loop-going-preserved-in-Status-1
-loop-going-preserved-in-Status-1 c =
+pub loop-going-preserved-in-Ok-Status-1 : goal.loop-going-preserved-in-Ok-Status-1
+loop-going-preserved-in-Ok-Status-1 c =
     let l = c.loop-going in
     (c.head_after-left.ensures, handled_on l.t l.h l.invariant.1 c.loop-going-test.true c.last_of-slot.ensures c.handle_next-handled.ensures c.in-Status.is)
 
 pub offset_bounds-t-to : goal.offset_bounds-t-to
 offset_bounds-t-to c =
     let l = c.loop-going in
-    let q = (handled_puts l.t l.h l.invariant.1 c.loop-going-test.true c.last_of-slot.ensures c.handle_next-handled.ensures c.in-Put.is).slot in
+    let q = (handled_puts l.t l.h l.invariant.1 c.loop-going-test.true c.last_of-slot.ensures c.handle_next-handled.ensures c.in-Ok-Put.is).slot in
     omega (arith, q)
 
 pub bounds-t-to : goal.bounds-t-to
 bounds-t-to c =
     let l = c.loop-going in
-    (handled_puts l.t l.h l.invariant.1 c.loop-going-test.true c.last_of-slot.ensures c.handle_next-handled.ensures c.in-Put.is).slot
+    (handled_puts l.t l.h l.invariant.1 c.loop-going-test.true c.last_of-slot.ensures c.handle_next-handled.ensures c.in-Ok-Put.is).slot
 
-pub loop-going-smaller-in-Put : goal.loop-going-smaller-in-Put
-loop-going-smaller-in-Put c =
+pub loop-going-smaller-in-Ok-Put : goal.loop-going-smaller-in-Ok-Put
+loop-going-smaller-in-Ok-Put c =
     let l = c.loop-going in
     handled_nears l.t l.h l.invariant.1 c.loop-going-test.true c.last_of-slot.ensures c.handle_next-handled.ensures
 
-pub loop-going-preserved-in-Put : goal.loop-going-preserved-in-Put
-loop-going-preserved-in-Put c =
+pub loop-going-preserved-in-Ok-Put : goal.loop-going-preserved-in-Ok-Put
+loop-going-preserved-in-Ok-Put c =
     let l = c.loop-going in
-    (c.head_after-left.ensures, handled_on l.t l.h l.invariant.1 c.loop-going-test.true c.last_of-slot.ensures c.handle_next-handled.ensures c.in-Put.is)
+    (c.head_after-left.ensures, handled_on l.t l.h l.invariant.1 c.loop-going-test.true c.last_of-slot.ensures c.handle_next-handled.ensures c.in-Ok-Put.is)
 
 pub loop-going-smaller : goal.loop-going-smaller
 loop-going-smaller c =
@@ -60,7 +60,7 @@ loop-going-smaller c =
 pub loop-going-preserved : goal.loop-going-preserved
 loop-going-preserved c =
     let l = c.loop-going in
-    (c.head_after-left.ensures, handled_on l.t l.h l.invariant.1 c.loop-going-test.true c.last_of-slot.ensures c.handle_next-handled.ensures c.in-Refused.is)
+    (c.head_after-left.ensures, handled_on l.t l.h l.invariant.1 c.loop-going-test.true c.last_of-slot.ensures c.handle_next-handled.ensures c.in-Err.is)
 
 pub returns : goal.returns
 returns c =

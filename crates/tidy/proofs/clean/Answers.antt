@@ -5,16 +5,16 @@ use mathlib.Core.Path.{sym, ◌∙◌}
 use Rattle.tidy.proofs.clean.Goals as goal
 
 pub are_clean-requires : goal.are_clean-requires
-are_clean-requires c = let a = c.args in (ready_of _ a.m a.block.now a.store.now (sym c.in-Fine.is ∙ c.check_done-s.ensures)).few
+are_clean-requires c = let a = c.args in (ready_of _ a.m a.block.now a.store.now (sym c.in-Ok.is ∙ c.check_done-s.ensures)).few
 
 pub returns-then-are_clean : goal.returns-then-are_clean
-returns-then-are_clean c = let a = c.args in clean_yes a.m a.block.now a.store.now (sym c.in-Fine.is ∙ c.check_done-s.ensures) (sym c.status_is_clean.ensures ∙ c.if-status_is_clean.true) (sym c.are_clean.ensures ∙ c.if-are_clean.true)
+returns-then-are_clean c = let a = c.args in clean_yes a.m a.block.now a.store.now (sym c.in-Ok.is ∙ c.check_done-s.ensures) (sym c.status_is_clean.ensures ∙ c.if-status_is_clean.true) (sym c.are_clean.ensures ∙ c.if-are_clean.true)
 
 pub returns-else-are_clean : goal.returns-else-are_clean
-returns-else-are_clean c = let a = c.args in fields_not a.m a.block.now a.store.now (sym c.in-Fine.is ∙ c.check_done-s.ensures) (sym c.are_clean.ensures ∙ c.if-are_clean.false)
+returns-else-are_clean c = let a = c.args in fields_not a.m a.block.now a.store.now (sym c.in-Ok.is ∙ c.check_done-s.ensures) (sym c.are_clean.ensures ∙ c.if-are_clean.false)
 
 pub returns-else-status_is_clean : goal.returns-else-status_is_clean
-returns-else-status_is_clean c = let a = c.args in status_not a.m a.block.now a.store.now (sym c.in-Fine.is ∙ c.check_done-s.ensures) (sym c.status_is_clean.ensures ∙ c.if-status_is_clean.false)
+returns-else-status_is_clean c = let a = c.args in status_not a.m a.block.now a.store.now (sym c.in-Ok.is ∙ c.check_done-s.ensures) (sym c.status_is_clean.ensures ∙ c.if-status_is_clean.false)
 
-pub returns-in-Refused : goal.returns-in-Refused
-returns-in-Refused c = clean_refused _ _ _ _ (sym c.in-Refused.is ∙ c.check_done-s.ensures)
+pub returns-in-Err : goal.returns-in-Err
+returns-in-Err c = clean_refused _ _ _ _ (sym c.in-Err.is ∙ c.check_done-s.ensures)

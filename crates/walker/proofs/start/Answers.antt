@@ -2,12 +2,12 @@
 use Rattle.walker.proofs.WalkLaws.{starts, start_refused}
 use Rattle.walker.proofs.start.Goals as goal
 
-pub returns-in-Fine : goal.returns-in-Fine
-returns-in-Fine c =
+pub returns-in-Ok : goal.returns-in-Ok
+returns-in-Ok c =
     let a = c.args in
-    starts a.m a.room a.position a.block.now a.store.now _ c.begin-made.ensures.result c.in-Fine.is _ c.kept_map-map.ensures
+    starts a.m a.room a.position a.block.now a.store.now _ c.begin-made.ensures.result c.in-Ok.is _ c.kept_map-map.ensures
 
-pub returns-in-Refused : goal.returns-in-Refused
-returns-in-Refused c =
+pub returns-in-Err : goal.returns-in-Err
+returns-in-Err c =
     let a = c.args in
-    start_refused a.m a.room a.position a.block.now a.store.now _ c.begin-made.ensures.result _ c.in-Refused.is
+    start_refused a.m a.room a.position a.block.now a.store.now _ c.begin-made.ensures.result _ c.in-Err.is

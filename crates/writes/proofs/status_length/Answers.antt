@@ -8,12 +8,12 @@ use Rattle.writes.proofs.status_length.Goals as goal
 pub returns-then-text-eq0 : goal.returns-then-text-eq0
 returns-then-text-eq0 c =
     let s = c.args in
-    (sym (ap length (line_bare s.block.now s.store.now s.s _ _ c.in-At.is c.part-text.ensures.is c.if-text-eq0.true)), omega arith)
+    (sym (ap length (line_bare s.block.now s.store.now s.s _ _ c.in-Some.is c.part-text.ensures.is c.if-text-eq0.true)), omega arith)
 
-pub returns-in-Absent : goal.returns-in-Absent
-returns-in-Absent c = let s = c.args in (sym (ap length (line_none s.block.now s.store.now s.s c.in-Absent.is)), omega arith)
+pub returns-in-None : goal.returns-in-None
+returns-in-None c = let s = c.args in (sym (ap length (line_none s.block.now s.store.now s.s c.in-None.is)), omega arith)
 
 pub returns-else-text-eq0 : goal.returns-else-text-eq0
 returns-else-text-eq0 c =
     let s = c.args in
-    (sym (line_length s.block.now s.store.now s.s _ _ c.in-At.is c.part-text.ensures.is c.if-text-eq0.false), omega (arith, c.part-text.ensures.small))
+    (sym (line_length s.block.now s.store.now s.s _ _ c.in-Some.is c.part-text.ensures.is c.if-text-eq0.false), omega (arith, c.part-text.ensures.small))

@@ -9,14 +9,14 @@ use Rattle.writes.proofs.write.Goals as goal
 pub slice_bounds-give-end : goal.slice_bounds-give-end
 slice_bounds-give-end c =
     let s = c.args in
-    let e = sym c.in-Fine.is ∙ c.check_done-s.ensures in
+    let e = sym c.in-Ok.is ∙ c.check_done-s.ensures in
     let w = ready_of _ s.m s.block.now s.store.now e in
     omega (arith, w.count, w.block)
 
 pub returns-then-is_untouched : goal.returns-then-is_untouched
 returns-then-is_untouched c =
     let s = c.args in
-    let e = sym c.in-Fine.is ∙ c.check_done-s.ensures in
+    let e = sym c.in-Ok.is ∙ c.check_done-s.ensures in
     let u = sym c.is_untouched.ensures ∙ c.if-is_untouched.true in
     let z : s.m.count - 0 ≡ s.m.count = omega arith in
     write_plain s.m s.block.now s.store.now s.out.now e u (rw z at c.give.ensures)
@@ -24,5 +24,5 @@ returns-then-is_untouched c =
 pub returns-else-is_untouched : goal.returns-else-is_untouched
 returns-else-is_untouched c = write_rebuilt _ _ _ _ (sym c.is_untouched.ensures ∙ c.if-is_untouched.false) c.rebuild.ensures
 
-pub returns-in-Refused : goal.returns-in-Refused
-returns-in-Refused c = write_refused _ _ _ _ _ (sym c.in-Refused.is ∙ c.check_done-s.ensures)
+pub returns-in-Err : goal.returns-in-Err
+returns-in-Err c = write_refused _ _ _ _ _ (sym c.in-Err.is ∙ c.check_done-s.ensures)

@@ -6,27 +6,27 @@ use mathlib.Core.Path.{sym, ◌∙◌}
 use Rattle.abi.proofs.looking.bisquecrow_find.Goals as goal
 
 pub head_at-h-requires : goal.head_at-h-requires
-head_at-h-requires c = (sound_parts _ _ (opens _ _ _ _ (sym c.in-Fine.is ∙ c.«open».ensures)).sound).0
+head_at-h-requires c = (sound_parts _ _ (opens _ _ _ _ (sym c.in-Ok.is ∙ c.«open».ensures)).sound).0
 
 pub find-found-requires : goal.find-found-requires
 find-found-requires c =
     let s = c.args in
-    let o = sym c.in-Fine.is ∙ c.«open».ensures in
+    let o = sym c.in-Ok.is ∙ c.«open».ensures in
     (rw c.head_at-h.ensures (few s.head.now s.table.now s.block.now s.store.now o), (sound_long _ _ (opens _ _ _ _ o).sound).1)
 
 pub put_found-requires : goal.put_found-requires
 put_found-requires c =
     let s = c.args in
-    let o = sym c.in-Fine.is ∙ c.«open».ensures in
+    let o = sym c.in-Ok.is ∙ c.«open».ensures in
     let e = rw c.head_at-h.ensures at c.find-found.ensures in
     ((sound_long _ _ (opens _ _ _ _ o).sound).1, rw e (seek_below (named s.block.now s.store.now s.name.now) s.table.now _ s.start (few s.head.now s.table.now s.block.now s.store.now o)))
 
-pub returns-in-Fine : goal.returns-in-Fine
-returns-in-Fine c =
+pub returns-in-Ok : goal.returns-in-Ok
+returns-in-Ok c =
     let s = c.args in
-    let o = sym c.in-Fine.is ∙ c.«open».ensures in
+    let o = sym c.in-Ok.is ∙ c.«open».ensures in
     let e = rw c.head_at-h.ensures at c.find-found.ensures in
     sees_fine _ _ _ _ _ _ _ _ _ _ _ _ _ _ o (e ∙ sought s.head.now s.table.now s.block.now s.store.now o (named s.block.now s.store.now s.name.now) s.start) (rw c.head_at-h.ensures at c.put_found.ensures)
 
-pub returns-in-Refused : goal.returns-in-Refused
-returns-in-Refused c = sees_refused _ _ _ _ _ _ _ _ _ _ _ (sym c.in-Refused.is ∙ c.«open».ensures) c.refused.ensures
+pub returns-in-Err : goal.returns-in-Err
+returns-in-Err c = sees_refused _ _ _ _ _ _ _ _ _ _ _ (sym c.in-Err.is ∙ c.«open».ensures) c.refused.ensures

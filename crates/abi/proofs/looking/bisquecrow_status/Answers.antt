@@ -5,13 +5,13 @@ use mathlib.Core.Path.{sym, ◌∙◌}
 use Rattle.abi.proofs.looking.bisquecrow_status.Goals as goal
 
 pub head_at-h-requires : goal.head_at-h-requires
-head_at-h-requires c = (sound_parts _ _ (opens _ _ _ _ (sym c.in-Fine.is ∙ c.«open».ensures)).sound).0
+head_at-h-requires c = (sound_parts _ _ (opens _ _ _ _ (sym c.in-Ok.is ∙ c.«open».ensures)).sound).0
 
-pub returns-in-Fine : goal.returns-in-Fine
-returns-in-Fine c =
+pub returns-in-Ok : goal.returns-in-Ok
+returns-in-Ok c =
     let s = c.args in
-    let o = sym c.in-Fine.is ∙ c.«open».ensures in
+    let o = sym c.in-Ok.is ∙ c.«open».ensures in
     lies_fine _ _ _ _ _ _ _ _ _ _ o (rw (status_there s.head.now s.table.now s.block.now s.store.now o) (rw c.head_at-h.ensures at c.put_status.ensures))
 
-pub returns-in-Refused : goal.returns-in-Refused
-returns-in-Refused c = lies_refused _ _ _ _ _ _ _ _ _ (sym c.in-Refused.is ∙ c.«open».ensures) c.refused.ensures
+pub returns-in-Err : goal.returns-in-Err
+returns-in-Err c = lies_refused _ _ _ _ _ _ _ _ _ (sym c.in-Err.is ∙ c.«open».ensures) c.refused.ensures

@@ -2,5 +2,5 @@
 use Rattle.abi.proofs.CallLaws.{seen_found}
 use Rattle.abi.proofs.looking.put_found.Goals as goal
 
-pub returns-in-Nth : goal.returns-in-Nth
-returns-in-Nth c = seen_found _ c.args.h _ _ _ _ _ _ _ _ _ c.in-Nth.is c.requires.1 c.field_at-f.ensures c.put_place.ensures
+pub returns-in-Ok-Some : goal.returns-in-Ok-Some
+returns-in-Ok-Some c = seen_found _ c.args.h _ _ _ _ _ _ _ _ _ c.in-Ok-Some.is c.requires.1 c.field_at-f.ensures c.put_place.ensures

@@ -5,4 +5,4 @@ use mathlib.Core.Path.{sym, ◌∙◌}
 use Rattle.abi.proofs.looking.put_reason.Goals as goal
 
 pub put_rest-requires : goal.put_rest-requires
-put_rest-requires c = omega (arith, start_within _ _ (told_at _ _ (sym c.reason_start.ensures ∙ c.in-Begins.is)), c.part-text.ensures.small)
+put_rest-requires c = omega (arith, start_within _ _ (told_at _ _ (sym c.reason_start.ensures ∙ c.in-Some.is)), c.part-text.ensures.small)

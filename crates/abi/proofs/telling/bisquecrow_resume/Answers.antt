@@ -5,16 +5,16 @@ use mathlib.Core.Path.{sym, ◌∙◌}
 use Rattle.abi.proofs.telling.bisquecrow_resume.Goals as goal
 
 pub live_at-one-requires : goal.live_at-one-requires
-live_at-one-requires c = (opens _ _ _ _ (sym c.in-Fine.is ∙ c.«open».ensures)).sound
+live_at-one-requires c = (opens _ _ _ _ (sym c.in-Ok.is ∙ c.«open».ensures)).sound
 
 pub returns-then-is_sound : goal.returns-then-is_sound
 returns-then-is_sound c =
     let a = c.args in
     let w = sym c.is_sound.ensures ∙ c.if-is_sound.true in
-    two_both a.head.now a.table.now a.block.now a.store.now _ _ _ _ (sym c.in-Fine.is ∙ c.«open».ensures) w (resume_live a.head.now a.table.now a.block.now a.store.now _ c.live_at-one.ensures a.head2.now a.table2.now a.block2.now a.store2.now _ c.live_at-two.ensures _ _ c.resume-v.ensures c.judged.ensures)
+    two_both a.head.now a.table.now a.block.now a.store.now _ _ _ _ (sym c.in-Ok.is ∙ c.«open».ensures) w (resume_live a.head.now a.table.now a.block.now a.store.now _ c.live_at-one.ensures a.head2.now a.table2.now a.block2.now a.store2.now _ c.live_at-two.ensures _ _ c.resume-v.ensures c.judged.ensures)
 
 pub returns-else-is_sound : goal.returns-else-is_sound
-returns-else-is_sound c = two_second _ _ _ _ _ _ _ (sym c.in-Fine.is ∙ c.«open».ensures) (sym c.is_sound.ensures ∙ c.if-is_sound.false)
+returns-else-is_sound c = two_second _ _ _ _ _ _ _ (sym c.in-Ok.is ∙ c.«open».ensures) (sym c.is_sound.ensures ∙ c.if-is_sound.false)
 
-pub returns-in-Refused : goal.returns-in-Refused
-returns-in-Refused c = two_refused _ _ _ _ _ _ _ _ _ (sym c.in-Refused.is ∙ c.«open».ensures) c.refused.ensures
+pub returns-in-Err : goal.returns-in-Err
+returns-in-Err c = two_refused _ _ _ _ _ _ _ _ _ (sym c.in-Err.is ∙ c.«open».ensures) c.refused.ensures

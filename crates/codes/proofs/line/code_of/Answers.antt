@@ -9,18 +9,18 @@ use Rattle.codes.proofs.line.code_of.Goals as goal
 
 pub find_octet-end-requires : goal.find_octet-end-requires
 find_octet-end-requires c =
-    let f = told_at _ _ (sym c.behind_space-start.ensures ∙ c.in-Begins.is) in
+    let f = told_at _ _ (sym c.behind_space-start.ensures ∙ c.in-Some.is) in
     behind_within 0 _ _ f
 
 pub slice_bounds-without_plus-end : goal.slice_bounds-without_plus-end
 slice_bounds-without_plus-end c =
     let s = c.args in
-    let f = told_at _ _ (sym c.behind_space-start.ensures ∙ c.in-Begins.is) in
-    omega (arith, c.find_octet-end.ensures, before_within 32 (drop c.in-Begins.k s.text.now), length-drop c.in-Begins.k s.text.now, behind_within 0 _ _ f)
+    let f = told_at _ _ (sym c.behind_space-start.ensures ∙ c.in-Some.is) in
+    omega (arith, c.find_octet-end.ensures, before_within 32 (drop c.in-Some.k s.text.now), length-drop c.in-Some.k s.text.now, behind_within 0 _ _ f)
 
-pub returns-in-Begins : goal.returns-in-Begins
-returns-in-Begins c =
-    let f = told_at _ _ (sym c.behind_space-start.ensures ∙ c.in-Begins.is) in
+pub returns-in-Some : goal.returns-in-Some
+returns-in-Some c =
+    let f = told_at _ _ (sym c.behind_space-start.ensures ∙ c.in-Some.is) in
     let e = sym c.is_http.ensures ∙ c.if-is_http.true in
     code_at _ e _ f _ (c.without_plus-digits.ensures ∙ ap without_plus (until_space_lem _ _ _ c.find_octet-end.ensures)) _ c.small_number.ensures
 

@@ -5,11 +5,11 @@ use mathlib.Core.Path.{sym, ap, ◌∙◌}
 use Rattle.codes.proofs.line.reason_start.Goals as goal
 
 pub behind_space-requires : goal.behind_space-requires
-behind_space-requires c = behind_within 0 _ _ (told_at _ _ (sym c.behind_space-start.ensures ∙ c.in-Begins.is))
+behind_space-requires c = behind_within 0 _ _ (told_at _ _ (sym c.behind_space-start.ensures ∙ c.in-Some.is))
 
-pub returns-in-Begins : goal.returns-in-Begins
-returns-in-Begins c =
-    let f = told_at _ _ (sym c.behind_space-start.ensures ∙ c.in-Begins.is) in
+pub returns-in-Some : goal.returns-in-Some
+returns-in-Some c =
+    let f = told_at _ _ (sym c.behind_space-start.ensures ∙ c.in-Some.is) in
     let e = sym c.is_http.ensures ∙ c.if-is_http.true in
     c.behind_space.ensures ∙ sym (ap start_told (start_at _ e _ f))
 

@@ -12,13 +12,13 @@ returns-then-ends_at c = let a = c.args in sym (c.loop-left.invariant.2 ∙ scan
 pub loop-left-preserved : goal.loop-left-preserved
 loop-left-preserved c =
     let a = c.args in
-    let e = sym c.in-Behind.is ∙ c.past_pair-pair.ensures in
+    let e = sym c.in-Some.is ∙ c.past_pair-pair.ensures in
     (pair_within a.octets.now c.loop-left.at c.loop-left.invariant.0 _ e, search rules, c.loop-left.invariant.2 ∙ scan_more a.octets.now c.loop-left.at (sym c.ends_at.ensures ∙ c.if-ends_at.false) c.loop-left.left _ c.loop-left-test.true e)
 
-pub returns-in-Not : goal.returns-in-Not
-returns-in-Not c =
+pub returns-in-None : goal.returns-in-None
+returns-in-None c =
     let a = c.args in
-    let e = sym c.in-Not.is ∙ c.past_pair-pair.ensures in
+    let e = sym c.in-None.is ∙ c.past_pair-pair.ensures in
     sym (c.loop-left.invariant.2 ∙ scan_stop a.octets.now c.loop-left.at (sym c.ends_at.ensures ∙ c.if-ends_at.false) c.loop-left.left c.loop-left-test.true e)
 
 pub returns : goal.returns

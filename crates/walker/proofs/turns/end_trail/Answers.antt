@@ -13,12 +13,12 @@ returns-in-Ended c =
     let a = c.args in
     ends_over a.t a.c _ c.rests.ensures c.in-Ended.is c.stand-in-Ended.result c.stand-in-Ended.ensures
 
-pub returns-in-Fine : goal.returns-in-Fine
-returns-in-Fine c =
+pub returns-in-Ok : goal.returns-in-Ok
+returns-in-Ok c =
     let a = c.args in
-    ends_goes a.t a.c _ c.rests.ensures c.in-Walks.is (sym c.in-Fine.is ∙ c.check_rest.ensures) c.end_stage.result c.end_stage.ensures
+    ends_goes a.t a.c _ c.rests.ensures c.in-Walks.is (sym c.in-Ok.is ∙ c.check_rest.ensures) c.end_stage.result c.end_stage.ensures
 
-pub returns-in-Refused : goal.returns-in-Refused
-returns-in-Refused c =
+pub returns-in-Err : goal.returns-in-Err
+returns-in-Err c =
     let a = c.args in
-    ends_stops a.t a.c _ c.rests.ensures c.in-Walks.is _ (sym c.in-Refused.is ∙ c.check_rest.ensures) c.stop.result c.stop.ensures
+    ends_stops a.t a.c _ c.rests.ensures c.in-Walks.is _ (sym c.in-Err.is ∙ c.check_rest.ensures) c.stop.result c.stop.ensures

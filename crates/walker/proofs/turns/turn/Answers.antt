@@ -13,12 +13,12 @@ returns-in-Ended c =
     let a = c.args in
     turn_over a.t a.c _ c.rests.ensures a.piece.now c.in-Ended.is _ c.stand-r-in-Ended.ensures
 
-pub returns-in-Fine : goal.returns-in-Fine
-returns-in-Fine c =
+pub returns-in-Ok : goal.returns-in-Ok
+returns-in-Ok c =
     let a = c.args in
-    turn_goes a.t a.c _ c.rests.ensures a.piece.now c.in-Walks.is (sym c.in-Fine.is ∙ c.check_rest.ensures) _ c.turn_on.ensures
+    turn_goes a.t a.c _ c.rests.ensures a.piece.now c.in-Walks.is (sym c.in-Ok.is ∙ c.check_rest.ensures) _ c.turn_on.ensures
 
-pub returns-in-Refused : goal.returns-in-Refused
-returns-in-Refused c =
+pub returns-in-Err : goal.returns-in-Err
+returns-in-Err c =
     let a = c.args in
-    turn_stops a.t a.c _ c.rests.ensures a.piece.now c.in-Walks.is _ (sym c.in-Refused.is ∙ c.check_rest.ensures) _ c.stop-r.ensures
+    turn_stops a.t a.c _ c.rests.ensures a.piece.now c.in-Walks.is _ (sym c.in-Err.is ∙ c.check_rest.ensures) _ c.stop-r.ensures
