@@ -1,21 +1,22 @@
 -- `codes::record_type` meets its contract. Assumes nothing.
+use Rattle.std.specs.Prelude.{Ok}
 use Rattle.codes.proofs.MapLaws.{kind_found, kind_missing, kind_refused}
 use Rattle.lookups.proofs.FoundLaws.{sight_at, sight_value, sight_missing, sight_blind}
 use Rattle.standard.specs.declared.names.WarcHeader.TheVariants.{WarcType}
 use Rattle.standard.specs.Names.{name_of}
-use mathlib.Core.Path.{sym, ◌∙◌}
+use mathlib.Core.Path.{sym, ◌∙◌, ap}
 use Rattle.codes.proofs.record_type.Goals as goal
 
 pub returns-in-Ok-Some : goal.returns-in-Ok-Some
 returns-in-Ok-Some c =
     let a = c.args in
-    let e = sym c.sight-found.ensures ∙ c.in-Ok-Some.is in
+    let e = sym c.sight-found.ensures ∙ (c.in-Ok-Some.is ∙ ap Ok (rw c.in-Ok-Some.is at c.in-Ok-Some.field-0-is)) in
     kind_found a.m a.block.now a.store.now _ _ _ (c.part-value.ensures.is ∙ sight_value a.m a.block.now a.store.now (name_of WarcType) 0 _ _ e) (sight_at a.m a.block.now a.store.now (name_of WarcType) 0 _ _ e) c.record_type-n.ensures
 
 pub returns-in-Ok-None : goal.returns-in-Ok-None
 returns-in-Ok-None c =
     let a = c.args in
-    kind_missing _ _ _ (sight_missing a.m a.block.now a.store.now (name_of WarcType) 0 (sym c.sight-found.ensures ∙ c.in-Ok-None.is))
+    kind_missing _ _ _ (sight_missing a.m a.block.now a.store.now (name_of WarcType) 0 (sym c.sight-found.ensures ∙ (c.in-Ok-None.is ∙ ap Ok (rw c.in-Ok-None.is at c.in-Ok-None.field-0-is))))
 
 pub returns-in-Err : goal.returns-in-Err
 returns-in-Err c =

@@ -1,6 +1,7 @@
 -- `reader::feed_lines` meets its contract. Assumes nothing.
+use Rattle.std.specs.Prelude.{Ok}
 use Rattle.line_reader.proofs.HeldLaws.{feeding_start}
-use mathlib.Core.Path.{refl}
+use mathlib.Core.Path.{refl, ap, ◌∙◌}
 use native.Mathlib.Omega.{arith}
 use Rattle.line_reader.proofs.LineSteps.{seated, able}
 use Rattle.reader.proofs.EndLaws.{handled_nears, handled_on, handled_puts, feed_end}
@@ -19,7 +20,7 @@ loop-going-smaller-in-Ok-Nothing c =
 pub loop-going-preserved-in-Ok-Nothing : goal.loop-going-preserved-in-Ok-Nothing
 loop-going-preserved-in-Ok-Nothing c =
     let l = c.loop-going in
-    (c.head_after-left.ensures, handled_on l.t l.h l.invariant.1 c.loop-going-test.true c.last_of-slot.ensures c.handle_next-handled.ensures c.in-Ok-Nothing.is)
+    (c.head_after-left.ensures, handled_on l.t l.h l.invariant.1 c.loop-going-test.true c.last_of-slot.ensures c.handle_next-handled.ensures (c.in-Ok-Nothing.is ∙ ap Ok (rw c.in-Ok-Nothing.is at c.in-Ok-Nothing.field-0-is)))
 
 pub loop-going-smaller-in-Ok-Status-1 : goal.loop-going-smaller-in-Ok-Status-1
 loop-going-smaller-in-Ok-Status-1 c =
@@ -34,13 +35,13 @@ loop-going-preserved-in-Ok-Status-1 c =
 pub offset_bounds-t-to : goal.offset_bounds-t-to
 offset_bounds-t-to c =
     let l = c.loop-going in
-    let q = (handled_puts l.t l.h l.invariant.1 c.loop-going-test.true c.last_of-slot.ensures c.handle_next-handled.ensures c.in-Ok-Put.is).slot in
+    let q = (handled_puts l.t l.h l.invariant.1 c.loop-going-test.true c.last_of-slot.ensures c.handle_next-handled.ensures (c.in-Ok-Put.is ∙ ap Ok (rw c.in-Ok-Put.is at c.in-Ok-Put.field-0-is))).slot in
     omega (arith, q)
 
 pub bounds-t-to : goal.bounds-t-to
 bounds-t-to c =
     let l = c.loop-going in
-    (handled_puts l.t l.h l.invariant.1 c.loop-going-test.true c.last_of-slot.ensures c.handle_next-handled.ensures c.in-Ok-Put.is).slot
+    (handled_puts l.t l.h l.invariant.1 c.loop-going-test.true c.last_of-slot.ensures c.handle_next-handled.ensures (c.in-Ok-Put.is ∙ ap Ok (rw c.in-Ok-Put.is at c.in-Ok-Put.field-0-is))).slot
 
 pub loop-going-smaller-in-Ok-Put : goal.loop-going-smaller-in-Ok-Put
 loop-going-smaller-in-Ok-Put c =
@@ -50,7 +51,7 @@ loop-going-smaller-in-Ok-Put c =
 pub loop-going-preserved-in-Ok-Put : goal.loop-going-preserved-in-Ok-Put
 loop-going-preserved-in-Ok-Put c =
     let l = c.loop-going in
-    (c.head_after-left.ensures, handled_on l.t l.h l.invariant.1 c.loop-going-test.true c.last_of-slot.ensures c.handle_next-handled.ensures c.in-Ok-Put.is)
+    (c.head_after-left.ensures, handled_on l.t l.h l.invariant.1 c.loop-going-test.true c.last_of-slot.ensures c.handle_next-handled.ensures (c.in-Ok-Put.is ∙ ap Ok (rw c.in-Ok-Put.is at c.in-Ok-Put.field-0-is)))
 
 pub loop-going-smaller : goal.loop-going-smaller
 loop-going-smaller c =

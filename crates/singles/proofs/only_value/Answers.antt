@@ -1,27 +1,28 @@
 -- `singles::only_value` meets its contract. Assumes nothing.
+use Rattle.std.specs.Prelude.{Ok}
 use Rattle.singles.proofs.FieldLaws.{found_small, none_missing, one_found, none_again, none_refused}
 use Rattle.lookups.proofs.FoundLaws.{sight_at, sight_value, sight_missing, sight_blind}
 use native.Mathlib.Omega.{arith}
-use mathlib.Core.Path.{sym, ◌∙◌}
+use mathlib.Core.Path.{sym, ◌∙◌, ap}
 use Rattle.singles.proofs.only_value.Goals as goal
 
 pub overflow_add-i : goal.overflow_add-i
 overflow_add-i c =
     let a = c.args in
-    let e = sight_at a.m a.block.now a.store.now a.name.now 0 _ _ (sym c.sight-first.ensures ∙ c.in-Ok-Some.is) in
+    let e = sight_at a.m a.block.now a.store.now a.name.now 0 _ _ (sym c.sight-first.ensures ∙ (c.in-Ok-Some.is ∙ ap Ok (rw c.in-Ok-Some.is at c.in-Ok-Some.field-0-is))) in
     let h = found_small a.m a.block.now a.store.now a.name.now _ e in
     omega (arith, h)
 
 pub returns-in-Ok-Some : goal.returns-in-Ok-Some
 returns-in-Ok-Some c =
     let a = c.args in
-    none_again a.m a.block.now a.store.now a.name.now _ _ (sight_at a.m a.block.now a.store.now a.name.now 0 _ _ (sym c.sight-first.ensures ∙ c.in-Ok-Some.is)) (sym c.find-second.ensures ∙ c.in-Ok-Some.is)
+    none_again a.m a.block.now a.store.now a.name.now _ _ (sight_at a.m a.block.now a.store.now a.name.now 0 _ _ (sym c.sight-first.ensures ∙ (c.in-Ok-Some.is ∙ ap Ok (rw c.in-Ok-Some.is at c.in-Ok-Some.field-0-is)))) (sym c.find-second.ensures ∙ (c.in-Ok-Some.is ∙ ap Ok (rw c.in-Ok-Some.is at c.in-Ok-Some.field-0-is)))
 
 pub returns-in-Ok-None-second : goal.returns-in-Ok-None-second
 returns-in-Ok-None-second c =
     let a = c.args in
-    let e = sym c.sight-first.ensures ∙ c.in-Ok-Some.is in
-    one_found a.m a.block.now a.store.now a.name.now _ (sight_at a.m a.block.now a.store.now a.name.now 0 _ _ e) (sym c.find-second.ensures ∙ c.in-Ok-None-second.is) _ (c.part.ensures.is ∙ sight_value a.m a.block.now a.store.now a.name.now 0 _ _ e)
+    let e = sym c.sight-first.ensures ∙ (c.in-Ok-Some.is ∙ ap Ok (rw c.in-Ok-Some.is at c.in-Ok-Some.field-0-is)) in
+    one_found a.m a.block.now a.store.now a.name.now _ (sight_at a.m a.block.now a.store.now a.name.now 0 _ _ e) (sym c.find-second.ensures ∙ (c.in-Ok-None-second.is ∙ ap Ok (rw c.in-Ok-None-second.is at c.in-Ok-None-second.field-0-is))) _ (c.part.ensures.is ∙ sight_value a.m a.block.now a.store.now a.name.now 0 _ _ e)
 
 pub returns-in-Err-second : goal.returns-in-Err-second
 returns-in-Err-second c =
@@ -31,7 +32,7 @@ returns-in-Err-second c =
 pub returns-in-Ok-None : goal.returns-in-Ok-None
 returns-in-Ok-None c =
     let a = c.args in
-    none_missing a.m a.block.now a.store.now a.name.now (sight_missing a.m a.block.now a.store.now a.name.now 0 (sym c.sight-first.ensures ∙ c.in-Ok-None.is))
+    none_missing a.m a.block.now a.store.now a.name.now (sight_missing a.m a.block.now a.store.now a.name.now 0 (sym c.sight-first.ensures ∙ (c.in-Ok-None.is ∙ ap Ok (rw c.in-Ok-None.is at c.in-Ok-None.field-0-is))))
 
 pub returns-in-Err : goal.returns-in-Err
 returns-in-Err c =
