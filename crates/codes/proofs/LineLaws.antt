@@ -16,7 +16,6 @@ use Rattle.leaves.specs.Octets.{octets, before, same_list}
 use Rattle.leaves.proofs.NameLaws.{apart}
 use Rattle.leaves.proofs.PasteLaws.{tail_all}
 use Rattle.codes.specs.Line.{is_http, behind_space, thence, until_space, without_plus, small_number, status_code, reason_start}
-use Rattle.codes.specs.Told.{code_told, start_told}
 
 pub http_short : (s : List ℕ) → length s < 5 → is_http s ≡ false
 unfolding is_http
@@ -25,15 +24,6 @@ http_short s h = apart (take 5 s) (octets "HTTP/") (λ e. omega (arith, e, lengt
 pub http_is : (s : List ℕ) (t : Bool) → t ≡ same_list (take 5 s) (octets "HTTP/") → t ≡ is_http s
 unfolding is_http
 http_is s t e = e
-
--- what an answer tells
-pub told_at : (o : Option ℕ) (k : ℕ) → start_told o ≡ Some k → o ≡ Some k
-told_at None k e = clash (cc)
-told_at (Some j) k e = let z : j ≡ k = cc in ap Some z
-
-pub told_none : (o : Option ℕ) → start_told o ≡ None → o ≡ None
-told_none None e = refl
-told_none (Some j) e = clash (cc)
 
 -- the place behind a space
 module _ (k : ℕ) (s : List ℕ) where
@@ -105,7 +95,7 @@ module _ (s : List ℕ) where
 
 -- the code and the reason, case by case
 module _ (s : List ℕ) where
-  pub code_other : is_http s ≡ false → Ok None ≡ code_told (status_code s)
+  pub code_other : is_http s ≡ false → status_code s ≡ None
   unfolding status_code when◌then◌else◌
   code_other e = rw e
 
@@ -114,14 +104,14 @@ module _ (s : List ℕ) where
   start_other e = rw e
 
   module _ (e : is_http s ≡ true) where
-    pub code_none : behind_space 0 s ≡ None → Ok None ≡ code_told (status_code s)
+    pub code_none : behind_space 0 s ≡ None → status_code s ≡ None
     unfolding status_code when◌then◌else◌
     code_none f = rw (e, f)
 
     pub code_at : (k : ℕ) → behind_space 0 s ≡ Some k → (t : List ℕ) → t ≡ without_plus (until_space (drop k s))
-        → (c : Result (Option ℕ) Refusal) → c ≡ code_told (small_number t) → c ≡ code_told (status_code s)
+        → status_code s ≡ small_number t
     unfolding status_code when◌then◌else◌
-    code_at k f t g c h = rw (e, f, ← g) h
+    code_at k f t g = rw (e, f, g)
 
     pub start_none : behind_space 0 s ≡ None → reason_start s ≡ None
     unfolding reason_start when◌then◌else◌

@@ -1,7 +1,7 @@
 -- What the calls for status code, reason, content length and record type give, case by case. Assumes nothing.
 use Rattle.maps.specs.declared.Place.{Place}
-use Rattle.std.specs.Prelude.{Err, None, Ok, Option, Result, Some, false, true}
-use mathlib.Core.Path.{◌≡◌, sym, ap, ◌∙◌}
+use Rattle.std.specs.Prelude.{Err, None, Ok, Option, Result, Some, is_some}
+use mathlib.Core.Path.{◌≡◌, refl, sym, ap, ◌∙◌}
 use mathlib.Core.List.{List, []}
 use Prim.Native.Nat.{ℕ, ◌+◌}
 use lib.ListN.{drop}
@@ -16,9 +16,13 @@ use Rattle.maps.specs.declared.HeaderMap.{HeaderMap}
 use Rattle.lookups.specs.Lookups.{finding, status_in, status_place, value_place, handed_out, Handed}
 use Rattle.maps.specs.Said.{text_of, saying}
 use Rattle.lookups.proofs.HandLaws.{status_fine, text_says}
-use Rattle.codes.specs.Line.{status_code, reason_start}
-use Rattle.codes.specs.Told.{code_told}
+use Rattle.codes.specs.Line.{status_code, reason_start, thence}
 use Rattle.codes.specs.Codes.{status_text, coding, reasoning, Phrased, length_of, kind_of}
+
+-- there is a reason where it starts
+phrase_told : (l : List ℕ) (o : Option ℕ) → is_some o ≡ is_some (thence o (λ k. Some (drop k l)))
+phrase_told l None = refl
+phrase_told l (Some k) = refl
 
 module _ (m : HeaderMap) (b s : List ℕ) where
   pub code_refused : (x : Refusal) → Err x ≡ checked_done m b s → Err x ≡ coding m b s
@@ -33,22 +37,18 @@ module _ (m : HeaderMap) (b s : List ℕ) where
     text_fine : t ≡ status_text m b s
     text_fine = f ∙ ap (λ (x : Option Place). handed_out b s (status_in x)) (sym (status_fine m b s e))
 
-    pub code_fine : (c : Result (Option ℕ) Refusal) → c ≡ code_told (status_code t) → c ≡ coding m b s
+    pub code_fine : (c : Result (Option ℕ) Refusal) → c ≡ Ok (status_code t) → c ≡ coding m b s
     unfolding coding
-    code_fine c h = rw (sym e) (h ∙ ap (λ (l : List ℕ). code_told (status_code l)) text_fine)
+    code_fine c h = rw (sym e) (h ∙ ap (λ (l : List ℕ). Ok (status_code l)) text_fine)
 
-    pub phrase_stands : (k : ℕ) → reason_start t ≡ Some k → Ok true ≡ reasoning m b s
+    pub phrase_is : Ok (is_some (reason_start t)) ≡ reasoning m b s
     unfolding reasoning
-    phrase_stands k h = rw (sym e, ← text_fine, h)
-
-    pub phrase_none : reason_start t ≡ None → Ok false ≡ reasoning m b s
-    unfolding reasoning
-    phrase_none h = rw (sym e, ← text_fine, h)
+    phrase_is = rw (sym e, ← text_fine) (ap Ok (phrase_told t (reason_start t)))
 
   -- the code is that of what the map says
-  pub coding_says : Ok tt ≡ checked_done m b s → coding m b s ≡ code_told (status_code (text_of (saying m b s).status))
+  pub coding_says : Ok tt ≡ checked_done m b s → coding m b s ≡ Ok (status_code (text_of (saying m b s).status))
   unfolding coding
-  coding_says e = rw (sym e) (ap (λ (l : List ℕ). code_told (status_code l)) (text_says m b s e))
+  coding_says e = rw (sym e) (ap (λ (l : List ℕ). Ok (status_code l)) (text_says m b s e))
 
   -- the reason that is handed out
   module _ (x y : ℕ × ℕ) (t : List ℕ) (w : ℕ × ℕ) (h : Handed b s x y (status_place m b s) t w) (r : List ℕ) (z : ℕ × ℕ) where

@@ -1,4 +1,3 @@
 pub mod Line
-pub mod Told
 pub mod Codes
 pub mod Answers

@@ -13,7 +13,7 @@ unfoldable pub behind_space : ℕ → List ℕ → Option ℕ
 behind_space k s = when ltb (k + before 32 (drop k s)) (length s) then Some (k + before 32 (drop k s) + 1) else None
 
 -- what is told of a place, if there is one
-abbrev pub thence {ℓ} : {A : Type ℓ} → Option ℕ → (ℕ → Option A) → Option A
+abbrev pub thence : {A : Type 0} → Option ℕ → (ℕ → Option A) → Option A
 thence None f = None
 thence (Some k) f = f k
 

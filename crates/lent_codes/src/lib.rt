@@ -58,7 +58,7 @@ pub fn content_length<'a>(h: Head, t: &[u32], block: &'a [u8], store: &'a [u8]) 
     requires { length t.now ≡ 1024 }
     ensures { result ≡ length_of (map_in t.now h) block.now store.now }
 {
-    let found = find(h, t, block, store, b"Content-Result<Option<u64>, Refusal>");
+    let found = find(h, t, block, store, b"Content-Length");
     match found {
         Ok(Some(i)) => {
             let text = value(t, block, store, i);

@@ -1,18 +1,14 @@
 -- `codes::has_reason` meets its contract. Assumes nothing.
-use Rattle.codes.proofs.MapLaws.{phrase_stands, phrase_none, phrase_refused}
-use Rattle.codes.proofs.LineLaws.{told_at, told_none}
-use mathlib.Core.Path.{sym, ◌∙◌}
+use Rattle.std.proofs.lemmas.Result.{err_from_is_err_and}
+use Rattle.codes.proofs.MapLaws.{phrase_is, phrase_refused}
+use mathlib.Core.Path.{sym, ap, ◌∙◌}
+use Rattle.std.specs.Prelude.{Ok, Err, is_some}
 use Rattle.codes.proofs.has_reason.Goals as goal
 
-pub returns-in-Some : goal.returns-in-Some
-returns-in-Some c =
-    phrase_stands _ _ _ (sym c.in-Ok.is ∙ c.check_done-s.ensures) _ c.status_text-text.ensures _
-    (told_at _ _ (sym c.reason_start-start.ensures ∙ c.in-Some.is))
+pub returns-in_err-check_done : goal.returns-in_err-check_done
+returns-in_err-check_done c =
+    let p = err_from_is_err_and c.from_residual.result c.from_residual.ensures.1 in
+    p.1 ∙ ap Err p.2 ∙ phrase_refused _ _ _ _ (sym c.in_err-check_done.was ∙ c.check_done.ensures)
 
-pub returns-in-None : goal.returns-in-None
-returns-in-None c =
-    phrase_none _ _ _ (sym c.in-Ok.is ∙ c.check_done-s.ensures) _ c.status_text-text.ensures
-    (told_none _ (sym c.reason_start-start.ensures ∙ c.in-None.is))
-
-pub returns-in-Err : goal.returns-in-Err
-returns-in-Err c = phrase_refused _ _ _ _ (sym c.in-Err.is ∙ c.check_done-s.ensures)
+pub returns : goal.returns
+returns c = ap Ok (c.is_some.ensures ∙ ap is_some c.reason_start.ensures) ∙ phrase_is _ _ _ (sym c.in_ok-check_done.was ∙ c.check_done.ensures) _ c.status_text-text.ensures

@@ -22,13 +22,13 @@ loop-going-preserved-in-Ok-Nothing c =
     let l = c.loop-going in
     (c.head_after-left.ensures, handled_on l.t l.h l.invariant.1 c.loop-going-test.true c.last_of-slot.ensures c.handle_next-handled.ensures (c.in-Ok-Nothing.is ∙ ap Ok (rw c.in-Ok-Nothing.is at c.in-Ok-Nothing.field-0-is)))
 
-pub loop-going-smaller-in-Ok-Status-1 : goal.loop-going-smaller-in-Ok-Status-1
-loop-going-smaller-in-Ok-Status-1 c =
+pub loop-going-smaller-in-Status-1 : goal.loop-going-smaller-in-Status-1
+loop-going-smaller-in-Status-1 c =
     let l = c.loop-going in
     handled_nears l.t l.h l.invariant.1 c.loop-going-test.true c.last_of-slot.ensures c.handle_next-handled.ensures
 
-pub loop-going-preserved-in-Ok-Status-1 : goal.loop-going-preserved-in-Ok-Status-1
-loop-going-preserved-in-Ok-Status-1 c =
+pub loop-going-preserved-in-Status-1 : goal.loop-going-preserved-in-Status-1
+loop-going-preserved-in-Status-1 c =
     let l = c.loop-going in
     (c.head_after-left.ensures, handled_on l.t l.h l.invariant.1 c.loop-going-test.true c.last_of-slot.ensures c.handle_next-handled.ensures c.in-Status.is)
 
