@@ -10,20 +10,13 @@ use maps::HeaderMap;
 pub fn only_value<'a>(m: HeaderMap, block: &'a [u8], store: &'a [u8], name: &[u8]) -> &'a [u8]
     ensures { result.now ≡ single m block.now store.now name.now }
 {
-    let first = lookups::sight(m, block, store, name, 0);
-    match first {
-        Ok(Some((i, f))) => {
-            let second = lookups::find(m, block, store, name, i + 1);
-            match second {
-                Ok(Some(j)) => &block[0..0],
-                Ok(None) => {
-                    let p = f.value;
-                    maps::part(block, store, p)
-                }
-                Err(x) => &block[0..0],
-            }
-        }
+    match lookups::sight(m, block, store, name, 0) {
+        Ok(Some((first, field))) => match lookups::find(m, block, store, name, first + 1) {
+            Ok(None) => maps::part(block, store, field.value),
+            Ok(Some(second)) => &block[0..0],
+            Err(e) => &block[0..0],
+        },
         Ok(None) => &block[0..0],
-        Err(x) => &block[0..0],
+        Err(e) => &block[0..0],
     }
 }

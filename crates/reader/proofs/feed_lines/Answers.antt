@@ -30,7 +30,7 @@ loop-going-smaller-in-Status-1 c =
 pub loop-going-preserved-in-Status-1 : goal.loop-going-preserved-in-Status-1
 loop-going-preserved-in-Status-1 c =
     let l = c.loop-going in
-    (c.head_after-left.ensures, handled_on l.t l.h l.invariant.1 c.loop-going-test.true c.last_of-slot.ensures c.handle_next-handled.ensures c.in-Status.is)
+    (c.head_after-left.ensures, handled_on l.t l.h l.invariant.1 c.loop-going-test.true c.last_of-slot.ensures c.handle_next-handled.ensures (c.in-Ok-Status.is ∙ ap Ok (rw c.in-Ok-Status.is at c.in-Ok-Status.field-0-is)))
 
 pub offset_bounds-t-to : goal.offset_bounds-t-to
 offset_bounds-t-to c =
