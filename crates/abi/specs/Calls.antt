@@ -101,7 +101,7 @@ edit_map r = r.map
 
 -- begin takes whatever numbers there are, if they are as many as a map's; refused, they stay
 abbrev pub begun : Result ⊤ Refusal → List ℕ → HeaderMap → List ℕ
-begun (Ok tt) old new = head_numbers (headIn new)
+begun (Ok _) old new = head_numbers (headIn new)
 begun (Err e) old new = old
 
 abbrev pub begun_out : List ℕ → List ℕ → Given Made → Out

@@ -102,7 +102,7 @@ module _ (m : HeaderMap) (b s : List ℕ) where
         made (record { fine = f; few = ltb-false _ _ d; fits = ltb-false _ _ e; is = if_false _ _ d ∙ if_false _ _ e })
 
     editing_by : (c : Result ⊤ Refusal) → c ≡ checked_done m b s → Outcome m b s n t (editing m b s n t)
-    editing_by (Ok tt) f = rw (goes_on (refusing m b s) (changing m b s n t) (checked_done m b s) f) (changing_by f _ _ refl refl)
+    editing_by (Ok _) f = rw (goes_on (refusing m b s) (changing m b s n t) (checked_done m b s) f) (changing_by f _ _ refl refl)
     editing_by (Err x) f = refused x f (refused_by (refusing m b s) (changing m b s n t) (checked_done m b s) x f)
 
     pub editing_outcome : Outcome m b s n t (editing m b s n t)
@@ -115,7 +115,7 @@ module _ (m : HeaderMap) (b s : List ℕ) where
   module _ (key : List ℕ) where
     removing_by : (c : Result ⊤ Refusal) → c ≡ checked_done m b s → Outcome m b s (thinned m (leaving m b s key)) [] (removing m b s key)
     unfolding removing
-    removing_by (Ok tt) f =
+    removing_by (Ok _) f =
         let w = ready_of _ m b s f in
         made
         (record {

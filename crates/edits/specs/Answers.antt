@@ -6,5 +6,5 @@ use Rattle.leaves.specs.Refusals.{number}
 
 -- an edit is done, or refused by a number
 abbrev pub told : Result ⊤ Refusal → ℕ
-told (Ok tt) = done
+told (Ok _) = done
 told (Err e) = number e

@@ -33,7 +33,7 @@ module _ (t : List ℕ) (h : Head) (b s name : List ℕ) where
     fine = by (checked_done (map_in t h) b s) refl
       where
         by : (c : Result ⊤ Refusal) → c ≡ checked_done (map_in t h) b s → Ok tt ≡ checked_done (map_in t h) b s
-        by (Ok tt) e = e
+        by (Ok _) e = e
         by (Err x) e = clash (cc (find_refused (map_in t h) b s name 0 x e))
 
     within : i < h.fields

@@ -14,34 +14,34 @@ use lent::tables;
 use maps::Head;
 use standard::types;
 
-pub fn status_code<'a>(h: Head, t: &[u32], block: &'a [u8], store: &'a [u8]) -> Result<Option<u16>, Refusal>
+// The status code, if there is one.
+pub fn status_code<'a>(
+    h: Head,
+    t: &[u32],
+    block: &'a [u8],
+    store: &'a [u8],
+) -> Result<Option<u16>, Refusal>
     requires { length t.now ≡ 1024 }
     ensures { result ≡ coding (map_in t.now h) block.now store.now }
 {
-    let s = lent::check_done(h, t, block, store);
-    match s {
-        Ok(()) => {
-            let status = h.status;
-            let text = codes::status_text(status, block, store);
-            line::code_of(text)
-        }
-        Err(x) => Err(x),
-    }
+    lent::check_done(h, t, block, store)?;
+    let text = codes::status_text(h.status, block, store);
+    Ok(line::code_of(text))
 }
 
 // The number of the first field that has a name.
-fn find<'a>(h: Head, t: &[u32], block: &'a [u8], store: &'a [u8], name: &[u8]) -> Result<Option<usize>, Refusal>
+fn find<'a>(
+    h: Head,
+    t: &[u32],
+    block: &'a [u8],
+    store: &'a [u8],
+    name: &[u8],
+) -> Result<Option<usize>, Refusal>
     requires { length t.now ≡ 1024 }
     ensures { result ≡ finding (map_in t.now h) block.now store.now name.now 0 }
 {
-    let s = lent::check_done(h, t, block, store);
-    match s {
-        Ok(()) => {
-            let n = h.fields;
-            tables::find(t, n, block, store, name, 0)
-        }
-        Err(x) => Err(x),
-    }
+    lent::check_done(h, t, block, store)?;
+    tables::find(t, h.fields, block, store, name, 0)
 }
 
 // The value of a field that was found: its map is judged already.
@@ -49,39 +49,38 @@ fn value<'a>(t: &[u32], block: &'a [u8], store: &'a [u8], i: usize) -> &'a [u8]
     requires { (i < 256) × (length t.now ≡ 1024) }
     ensures { result.now ≡ at block.now store.now (field_at t.now i).value }
 {
-    let f = tables::field_at(t, i);
-    let p = f.value;
-    maps::part(block, store, p)
+    let field = tables::field_at(t, i);
+    maps::part(block, store, field.value)
 }
 
-pub fn content_length<'a>(h: Head, t: &[u32], block: &'a [u8], store: &'a [u8]) -> Result<Option<u64>, Refusal>
+// The content length of the first field of that name, if there is one.
+pub fn content_length<'a>(
+    h: Head,
+    t: &[u32],
+    block: &'a [u8],
+    store: &'a [u8],
+) -> Result<Option<u64>, Refusal>
     requires { length t.now ≡ 1024 }
     ensures { result ≡ length_of (map_in t.now h) block.now store.now }
 {
-    let found = find(h, t, block, store, b"Content-Length");
-    match found {
-        Ok(Some(i)) => {
-            let text = value(t, block, store, i);
-            let n = lengths::content_length(text);
-            Ok(Some(n))
-        }
-        Ok(None) => Ok(None),
-        Err(x) => Err(x),
+    match find(h, t, block, store, b"Content-Length")? {
+        Some(i) => Ok(Some(lengths::content_length(value(t, block, store, i)))),
+        None => Ok(None),
     }
 }
 
-pub fn record_type<'a>(h: Head, t: &[u32], block: &'a [u8], store: &'a [u8]) -> Result<u16, Refusal>
+// The code of a record's type.
+pub fn record_type<'a>(
+    h: Head,
+    t: &[u32],
+    block: &'a [u8],
+    store: &'a [u8],
+) -> Result<u16, Refusal>
     requires { length t.now ≡ 1024 }
     ensures { result ≡ kind_of (map_in t.now h) block.now store.now }
 {
-    let found = find(h, t, block, store, b"WARC-Type");
-    match found {
-        Ok(Some(i)) => {
-            let text = value(t, block, store, i);
-            let n = types::record_type(text);
-            Ok(n)
-        }
-        Ok(None) => Ok(0),
-        Err(x) => Err(x),
+    match find(h, t, block, store, b"WARC-Type")? {
+        Some(i) => Ok(types::record_type(value(t, block, store, i))),
+        None => Ok(0),
     }
 }

@@ -9,7 +9,6 @@ use Rattle.writes.specs.Written.{IsWritten, rebuilding, writing}
 use Rattle.equals.specs.Equal.{comparing}
 use Rattle.codes.specs.Codes.{Phrased, coding, kind_of, length_of, reasoning}
 use Rattle.codes.specs.Line.{reason_start, status_code}
-use Rattle.codes.specs.Told.{code_told, start_told}
 use Rattle.tidy.specs.Calls.{cleaning, tidying}
 use Rattle.grammar.specs.Walk.{grammatical}
 use Rattle.singles.specs.Single.{single}
@@ -70,9 +69,9 @@ pub record Calls : Type 0 where
   -- record_type(m, block, store)
   pub record_type : Says Rattle.codes.proofs.record_type.Reads.Learnt (λ κ a r e. r ≡ kind_of (first a) (second a).now (third a).now)
   -- line::code_of(text)
-  pub code_of : Says Rattle.codes.proofs.line.code_of.Reads.Learnt (λ κ a r e. r ≡ code_told (status_code (first a).now))
+  pub code_of : Says Rattle.codes.proofs.line.code_of.Reads.Learnt (λ κ a r e. r ≡ status_code (first a).now)
   -- line::reason_start(text)
-  pub reason_start_call : Says Rattle.codes.proofs.line.reason_start.Reads.Learnt (λ κ a r e. r ≡ start_told (reason_start (first a).now))
+  pub reason_start_call : Says Rattle.codes.proofs.line.reason_start.Reads.Learnt (λ κ a r e. r ≡ reason_start (first a).now)
   -- the clean and the tidy test
   -- clean(m, block, store)
   pub clean : Says Rattle.tidy.proofs.clean.Reads.Learnt (λ κ a r e. r ≡ cleaning (first a) (second a).now (third a).now)

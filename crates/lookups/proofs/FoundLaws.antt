@@ -84,7 +84,7 @@ module _ (m : HeaderMap) (b s name : List ℕ) (from : ℕ) where
       fine = by (checked_done m b s) refl
         where
           by : (c : Result ⊤ Refusal) → c ≡ checked_done m b s → Ok tt ≡ checked_done m b s
-          by (Ok tt) e = e
+          by (Ok _) e = e
           by (Err x) e = clash (cc (find_refused m b s name from x e))
 
       within : i < m.fields

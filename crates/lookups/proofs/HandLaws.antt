@@ -50,7 +50,7 @@ module _ (m : HeaderMap) (b s : List ℕ) where
   fit_status (Some q) p (fit_at f) e = let z : q ≡ p = cc in rw z at f
 
   status_by : (c : Result ⊤ Refusal) (p : Place) → c ≡ checked_done m b s → shown_status m b s ≡ Some p → Within b s p
-  status_by (Ok tt) p e h = within_of e (fit_status m.status p (ready_of _ m b s e).status (sym (status_fine e) ∙ h))
+  status_by (Ok _) p e h = within_of e (fit_status m.status p (ready_of _ m b s e).status (sym (status_fine e) ∙ h))
   status_by (Err x) p e h = clash (cc (status_refused x e))
 
   -- a status that is handed out lies in its loan
@@ -82,7 +82,7 @@ module _ (m : HeaderMap) (b s : List ℕ) where
         by false u = clash (cc (slot_wrong e (ltb-false _ _ u)))
 
     slot_by : (c : Result ⊤ Refusal) (f : Field) → c ≡ checked_done m b s → slot_of m b s i ≡ Some f → Within b s f.key × Within b s f.value
-    slot_by (Ok tt) f e h = let w = fit_slot e f h in (within_of e w.key, within_of e w.value)
+    slot_by (Ok _) f e h = let w = fit_slot e f h in (within_of e w.key, within_of e w.value)
     slot_by (Err x) f e h = clash (cc (slot_refused x e))
 
     -- a field that is handed out has its places in their loans

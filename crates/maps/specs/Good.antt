@@ -80,7 +80,7 @@ checked_done m b s = checked (is_done m.phase) m (length b) (length s)
 
 -- by what the first checks said
 abbrev pub unless {ℓ} : {A : Type ℓ} → Result ⊤ Refusal → (Refusal → A) → A → A
-unless (Ok tt) refuse go = go
+unless (Ok _) refuse go = go
 unless (Err x) refuse go = refuse x
 
 -- a place that is not reversed, nor past b in the block or s in the store

@@ -46,12 +46,12 @@ pub begun : (m : HeaderMap) (limit room : ℕ) (awaits quirks : Bool) (b s : Lis
     → Is (beginning m limit room awaits quirks b s)
     (record { map = under m.table (head_when a (empty_head limit room awaits quirks Open) (head_of m)); answer = a }) b s
 unfolding beginning
-begun m limit room awaits quirks b s (Ok tt) e = rw (sym e) (record { result = refl; block = refl; store = refl })
+begun m limit room awaits quirks b s (Ok _) e = rw (sym e) (record { result = refl; block = refl; store = refl })
 begun m limit room awaits quirks b s (Err x) e = rw (sym e) (record { result = refl; block = refl; store = refl })
 
 -- clear: the same of an empty head that is Done
 pub cleared : (m : HeaderMap) (b s : List ℕ) (a : Result ⊤ Refusal) → a ≡ checked true m (length b) (length s)
     → Is (clearing m b s) (record { map = under m.table (head_when a (empty_head m.limit m.room false false Done) (head_of m)); answer = a }) b s
 unfolding clearing
-cleared m b s (Ok tt) e = rw (sym e) (record { result = refl; block = refl; store = refl })
+cleared m b s (Ok _) e = rw (sym e) (record { result = refl; block = refl; store = refl })
 cleared m b s (Err x) e = rw (sym e) (record { result = refl; block = refl; store = refl })

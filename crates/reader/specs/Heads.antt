@@ -34,7 +34,7 @@ head_after (Ok Input) h = done_head h
 head_after (Err e) h = empty_head h.limit h.room false false Done
 
 abbrev pub head_when : Result ⊤ Refusal → Head → Head → Head
-head_when (Ok tt) new old = new
+head_when (Ok _) new old = new
 head_when (Err e) new old = old
 
 -- the field that a change puts; else the last one, where it is

@@ -40,5 +40,5 @@ readings m b s ps = and_then finishing (feedings m b s ps).result.answer (feedin
 
 -- the number of a call behind an end: 7, or that of the first checks again
 abbrev pub behind : Result ⊤ Refusal → Refusal
-behind (Ok tt) = refusal 7
+behind (Ok _) = refusal 7
 behind (Err x) = x

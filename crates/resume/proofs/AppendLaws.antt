@@ -15,7 +15,6 @@ use Rattle.maps.specs.Good.{checked_done}
 use Rattle.maps.specs.Said.{Said, text_of, saying}
 use Rattle.maps.specs.declared.HeaderMap.{HeaderMap}
 use Rattle.codes.specs.Line.{status_code}
-use Rattle.codes.specs.Told.{code_told}
 use Rattle.codes.specs.Codes.{coding}
 use Rattle.codes.proofs.MapLaws.{coding_says}
 use Rattle.singles.specs.Single.{values_of, only_of}
@@ -36,7 +35,7 @@ appends (Err x) = false
 not_append : {A : Type 0} {r : Result Verdict Refusal} → appends r ≡ false → r ≡ Ok Append → A
 not_append f e = absurd (false≢true (sym f ∙ ap appends e))
 
-partial_code : (c : Option ℕ) → is_partial (code_told c) ≡ true → c ≡ Some 206
+partial_code : (c : Option ℕ) → is_partial (Ok c) ≡ true → c ≡ Some 206
 partial_code None e = absurd (false≢true e)
 partial_code (Some n) e = ap Some (eqb-true n 206 e)
 
@@ -99,5 +98,5 @@ module _ (m : HeaderMap) (b s : List ℕ) (k : HeaderMap) (c z : List ℕ) (e : 
   pub append_told : Appends (saying m b s) (saying k c z) → resuming m b s k c z ≡ answer 0
   unfolding resuming
   append_told a =
-      let p : is_partial (coding k c z) ≡ true = ap is_partial (coding_says k c z f ∙ ap code_told a.code) in
+      let p : is_partial (coding k c z) ≡ true = ap is_partial (coding_says k c z f ∙ ap Ok a.code) in
       rw (sym e, sym f) (if_true _ _ p ∙ to_tags (saying m b s) (saying k c z) a)

@@ -165,7 +165,7 @@ module _ (m : HeaderMap) (b s name : List ℕ) where
   fine_by from f g never = by (checked_done m b s) refl
     where
       by : (c : Result ⊤ Refusal) → c ≡ checked_done m b s → Ok tt ≡ checked_done m b s
-      by (Ok tt) e = e
+      by (Ok _) e = e
       by (Err x) e = absurd (never x (sym g ∙ find_refused m b s name from x e))
 
   found_fine : (from i : ℕ) → finding m b s name from ≡ Ok (Some i) → Ok tt ≡ checked_done m b s
@@ -191,5 +191,5 @@ module _ (m : HeaderMap) (b s name : List ℕ) where
   none_refused from x f = by (checked_done m b s) refl
     where
       by : (c : Result ⊤ Refusal) → c ≡ checked_done m b s → [] ≡ single m b s name
-      by (Ok tt) e = never_refused m b s name e from x f
+      by (Ok _) e = never_refused m b s name e from x f
       by (Err y) e = sym (single_none y e)

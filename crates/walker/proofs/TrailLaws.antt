@@ -189,7 +189,7 @@ module _ (m : HeaderMap) (b s p : List ℕ) where
   ended_fine e r (Err x) z f = clash (cc)
 
   fed_passes : (c : Result ⊤ Refusal) → c ≡ checked_reading m b s → Passes-on (feeding m b s p)
-  fed_passes (Ok tt) e =
+  fed_passes (Ok _) e =
       let r = fed (rules_of m) (reading_of m b s) p in
       subst Passes-on (sym (fed_goes m b s p e))
       (ended_fine e r r.answer (fed_within (rules_of m) (reading_of m b s) p (sound_of m b s (ready_of _ m b s e))))

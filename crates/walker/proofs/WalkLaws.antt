@@ -196,12 +196,12 @@ module _ (m : HeaderMap) (room position : ℕ) (b s : List ℕ) where
       → r.answer ≡ Ok tt → (q : HeaderMap) → q ≡ emptied r.map
       → Is (starting m room position b s) (walked q position 0 Between position 0 (Ok More)) b s
   unfolding starting
-  start_by (Ok tt) e r f g q h =
+  start_by (Ok _) e r f g q h =
       let z : q ≡ empty m.table default_limit room false false Done = h ∙ ap (λ (x : Made). emptied x.map) f in
       rw (sym e, z) (record { result = refl; block = refl; store = refl })
   start_by (Err x) e r f g q h = apart x (sym (ap (λ (y : Made). y.answer) f) ∙ g)
     where
-      apart : {A : Type 0} (y : Refusal) → Err y ≡ Ok tt → A
+      apart : {A : Type 0} (y : Refusal) → Err y ≡ Ok (tt {0}) → A
       apart y u = let z : ◌≡◌ {A = ℕ} 0 1 = cc in absurd (omega arith)
 
   pub starts : (r : Made) → r ≡ (beginning m default_limit room false false b s).result → r.answer ≡ Ok tt → (q : HeaderMap) → q ≡ emptied r.map
@@ -213,9 +213,9 @@ module _ (m : HeaderMap) (room position : ℕ) (b s : List ℕ) where
       → (r : Made) → r ≡ (unless c (λ e. makes b s m (Err e)) (makes b s (empty m.table default_limit room false false Reading) (Ok tt))).result
       → (x : Refusal) → r.answer ≡ Err x → Is (starting m room position b s) (walked m position 0 (Stopped x) position 0 (Err x)) b s
   unfolding starting
-  refuse_by (Ok tt) e r f x g = apart x (sym (ap (λ (y : Made). y.answer) f) ∙ g)
+  refuse_by (Ok _) e r f x g = apart x (sym (ap (λ (y : Made). y.answer) f) ∙ g)
     where
-      apart : {A : Type 0} (y : Refusal) → Ok tt ≡ Err y → A
+      apart : {A : Type 0} (y : Refusal) → Ok (tt {0}) ≡ Err y → A
       apart y u = let z : ◌≡◌ {A = ℕ} 0 1 = cc in absurd (omega arith)
   refuse_by (Err y) e r f x g =
       let u : Err y ≡ Err x = sym (ap (λ (d : Made). d.answer) f) ∙ g in

@@ -1,5 +1,5 @@
 // A walker but for its map: the trail. What a call does on it is the same for a map by value and for one that is lent.
-ghost use Rattle.std.specs.Prelude.{◌≡◌, ◌+◌, ◌≤◌, min, length, take, drop};
+ghost use Rattle.std.specs.Prelude.{◌≡◌, true, ◌+◌, ◌≤◌, min, length, take, drop};
 ghost use Rattle.walker.specs.declared.Stage.TheVariants.{Stopped};
 ghost use Rattle.walker.specs.Walk.{stands as standing, stops_at, stops_inside, resting, ready_at, allowed as allowedOf, body_walked, common as commonOf, onward as onwardTo, trailer_stage, trailer_ended, trailer_walked, opened_at, header_more, between_walked, header_walked, walked_on, stage_ended};
 ghost use Rattle.walker.specs.Trails.{Follows, kept_head, at_stage, way_of, TurningAt, Turning, Turns, checked_rest, headed_walked, Ends};

@@ -24,7 +24,7 @@ module _ (d : List ℕ) (x : Refusal) where
   giving_left t = by_if Left _ _ _ (λ e h. refl) (λ e h. absurd (false≢true (sym (ap counts h))))
 
   by_check : (c : Result ⊤ Refusal) (t : List ℕ) → Left (unless c (refuses d) (giving d t))
-  by_check (Ok tt) t h = giving_left t h
+  by_check (Ok _) t h = giving_left t h
   by_check (Err y) t h = refl
 
   module _ (m : HeaderMap) (b s : List ℕ) where

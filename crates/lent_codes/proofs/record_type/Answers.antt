@@ -1,29 +1,32 @@
 -- `lent_codes::record_type` meets its contract. Assumes nothing.
-use Rattle.std.specs.Prelude.{Ok}
+use Rattle.std.proofs.lemmas.Result.{err_from_is_err_and}
+use Rattle.std.specs.Prelude.{Ok, Err}
+use mathlib.Core.Path.{sym, ap, ◌∙◌}
 use Rattle.codes.proofs.MapLaws.{kind_found, kind_missing, kind_refused}
 use Rattle.standard.specs.Names.{name_of}
 use Rattle.standard.specs.declared.names.WarcHeader.TheVariants.{WarcType}
 use Rattle.lent.specs.Table.{map_in}
 use Rattle.lent_codes.proofs.FindLaws.{found_small, found_value}
-use mathlib.Core.Path.{sym, ◌∙◌, ap}
 use Rattle.lent_codes.proofs.record_type.Goals as goal
 
-pub value-text-requires : goal.value-text-requires
-value-text-requires c =
-    (found_small c.args.t.now c.args.h c.args.block.now c.args.store.now (name_of WarcType) _ (sym c.find-found.ensures ∙ (c.in-Ok-Some.is ∙ ap Ok (rw c.in-Ok-Some.is at c.in-Ok-Some.field-0-is))), c.requires)
-
-pub returns-in-Ok-Some : goal.returns-in-Ok-Some
-returns-in-Ok-Some c =
+pub value-requires : goal.value-requires
+value-requires c =
     let s = c.args in
-    let f = sym c.find-found.ensures ∙ (c.in-Ok-Some.is ∙ ap Ok (rw c.in-Ok-Some.is at c.in-Ok-Some.field-0-is)) in
-    kind_found (map_in s.t.now s.h) s.block.now s.store.now _ _ _ (c.value-text.ensures ∙ found_value s.t.now s.h s.block.now s.store.now (name_of WarcType) _ f) f c.record_type-n.ensures
+    (found_small s.t.now s.h s.block.now s.store.now (name_of WarcType) _ (sym c.find.ensures ∙ c.in_ok-i.was ∙ ap Ok c.in-Some.is), c.requires)
 
-pub returns-in-Ok-None : goal.returns-in-Ok-None
-returns-in-Ok-None c =
+pub returns-in_err-i : goal.returns-in_err-i
+returns-in_err-i c =
     let s = c.args in
-    kind_missing (map_in s.t.now s.h) s.block.now s.store.now (sym c.find-found.ensures ∙ (c.in-Ok-None.is ∙ ap Ok (rw c.in-Ok-None.is at c.in-Ok-None.field-0-is)))
+    let p = err_from_is_err_and c.from_residual.result c.from_residual.ensures.1 in
+    p.1 ∙ ap Err p.2 ∙ kind_refused (map_in s.t.now s.h) s.block.now s.store.now _ (sym c.find.ensures ∙ c.in_err-i.was)
 
-pub returns-in-Err : goal.returns-in-Err
-returns-in-Err c =
+pub returns-in-Some : goal.returns-in-Some
+returns-in-Some c =
     let s = c.args in
-    kind_refused (map_in s.t.now s.h) s.block.now s.store.now _ (sym c.find-found.ensures ∙ c.in-Err.is)
+    let f = sym c.find.ensures ∙ c.in_ok-i.was ∙ ap Ok c.in-Some.is in
+    kind_found (map_in s.t.now s.h) s.block.now s.store.now _ _ _ (c.value.ensures ∙ found_value s.t.now s.h s.block.now s.store.now (name_of WarcType) _ f) f c.record_type.ensures
+
+pub returns-in-None : goal.returns-in-None
+returns-in-None c =
+    let s = c.args in
+    kind_missing (map_in s.t.now s.h) s.block.now s.store.now (sym c.find.ensures ∙ c.in_ok-i.was ∙ ap Ok c.in-None.is)

@@ -25,9 +25,9 @@ walk_trailer-r-requires c =
     let a = c.args in
     (way_past a.t.stage a.t.rest _ (sym c.way_of-way.ensures ∙ c.in-Trails.is), c.allowed-k.ensures)
 
-pub returns-in-Some : goal.returns-in-Some
-returns-in-Some c =
-    on_way c.args.t c.args.piece.now c.if-piece-eq0.false c.requires _ (sym c.in-Some.is ∙ c.way_of-way.ensures) _ (c.begin_header.ensures c.args.piece.now c.allowed-k.ensures)
+pub returns-in-Begins : goal.returns-in-Begins
+returns-in-Begins c =
+    on_way c.args.t c.args.piece.now c.if-piece-eq0.false c.requires _ (sym c.in-Begins.is ∙ c.way_of-way.ensures) _ (c.begin_header.ensures c.args.piece.now c.allowed-k.ensures)
 
 pub returns-in-GoesOn : goal.returns-in-GoesOn
 returns-in-GoesOn c =
