@@ -41,7 +41,7 @@ unfoldable pub opened : Said → Result (ℕ × ℕ) Refusal
 opened x =
     when is_version x.status
     then when is_length (only_value (name_of ContentLength) x)
-    then Ok ((decimal (only_value (name_of ContentLength) x)), (type_of (values_of (name_of WarcType) x.pairs)))
+    then Ok (decimal (only_value (name_of ContentLength) x), type_of (values_of (name_of WarcType) x.pairs))
     else Err (refusal 10)
     else Err (refusal 9)
 

@@ -81,7 +81,7 @@ kind_code b s times p = when eqb times 0 then 0 else type_code (at b s p)
 unfoldable pub opened_by : List ℕ → List ℕ → ℕ → Result (ℕ × ℕ) Refusal
 opened_by t v k =
     when version_text (trimmed t)
-    then when is_length v then Ok ((decimal v), k) else Err (refusal 10)
+    then when is_length v then Ok (decimal v, k) else Err (refusal 10)
     else Err (refusal 9)
 
 -- what a status and spots open
