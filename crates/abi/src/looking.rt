@@ -4,9 +4,9 @@ ghost use Rattle.lent.specs.Table.{map_in};
 ghost use Rattle.lookups.specs.Lookups.{status_in};
 ghost use Rattle.abi.specs.Calls.{Tells, fields_tell, Below, Sees, seen_at, find_sees, Lies, place_lies, handed_lies, value_lies, key_lies, status_lies, shifted, reason_of, reason_lies};
 
-use leaves::refusals::Refusal;
 use crate::{answers, opening};
 use codes::line;
+use leaves::refusals::Refusal;
 use lent::{heads, tables};
 use maps::{Head, Place};
 

@@ -2,8 +2,8 @@
 ghost use Rattle.std.specs.Prelude.{◌≡◌};
 ghost use Rattle.abi.specs.Calls.{Tells, code_number, length_number, kind_number, code_tells, length_tells, kind_tells, clean_tells, tidy_tells, grammar_tells, equal_tells, resume_tells};
 
-use leaves::refusals::Refusal;
 use crate::{answers, opening};
+use leaves::refusals::Refusal;
 use lent::heads;
 
 fn put_code(c: Result<Option<u16>, Refusal>, code: &mut u64)

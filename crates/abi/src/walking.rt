@@ -2,8 +2,8 @@
 ghost use Rattle.std.specs.Prelude.{◌≡◌, [], ◌∷◌};
 ghost use Rattle.abi.specs.Calls.{Goes, record_numbers, walker_gives, walk_gives, end_gives};
 
-use leaves::refusals::Refusal;
 use crate::answers;
+use leaves::refusals::Refusal;
 use lent::heads;
 use walker::Step;
 

@@ -2,8 +2,8 @@
 ghost use Rattle.std.specs.Prelude.{◌≡◌};
 ghost use Rattle.abi.specs.Calls.{Puts, count_number, write_puts, rebuild_puts};
 
-use leaves::refusals::Refusal;
 use crate::answers;
+use leaves::refusals::Refusal;
 use lent::heads;
 
 fn put_count(w: Result<usize, Refusal>, count: &mut u64)

@@ -7,10 +7,9 @@ ghost use Rattle.std.specs.Prelude.{◌≡◌};
 ghost use Rattle.lookups.specs.Lookups.{handed_out, status_in};
 ghost use Rattle.codes.specs.Codes.{coding, reasoning, Phrased, length_of, kind_of};
 
-use maps::Place;
 use leaves::lengths;
 use leaves::refusals::Refusal;
-use maps::HeaderMap;
+use maps::{HeaderMap, Place};
 use standard::types;
 
 // The octets of a status; none if it is absent.

@@ -89,7 +89,13 @@ pub fn write_both(store: &mut [u8], mark: usize, key: &[u8], value: &[u8]) -> us
 }
 
 // What putting a key and a value in at a number comes to: the field that is to stand at the mark, or 5, or 6.
-pub fn plan_put(at: usize, mark: usize, room: usize, key: &[u8], value: &[u8]) -> Result<Field, Refusal>
+pub fn plan_put(
+    at: usize,
+    mark: usize,
+    room: usize,
+    key: &[u8],
+    value: &[u8],
+) -> Result<Field, Refusal>
     requires { (mark ≤ room) × (room ≤ 65536) }
     ensures { result ≡ planned at mark room (sanitised true key.now) (sanitised false value.now) }
 {

@@ -6,9 +6,8 @@ ghost use Rattle.leaves.specs.Octets.{same_list};
 ghost use Rattle.maps.specs.Said.{pair_at, status_at};
 ghost use Rattle.equals.specs.Equal.{same_pairs, same_status, comparing};
 
-use maps::Place;
 use leaves::refusals::Refusal;
-use maps::{Field, HeaderMap};
+use maps::{Field, HeaderMap, Place};
 
 // Whether two texts are the same, octet by octet.
 pub fn same_octets(a: &[u8], b: &[u8]) -> bool
@@ -66,7 +65,14 @@ fn same_fields<'a>(
 }
 
 // Whether two maps' status is the same: absent is not empty.
-fn same_status<'a>(x: Option<Place>, y: Option<Place>, b: &'a [u8], s: &'a [u8], c: &'a [u8], z: &'a [u8]) -> bool
+fn same_status<'a>(
+    x: Option<Place>,
+    y: Option<Place>,
+    b: &'a [u8],
+    s: &'a [u8],
+    c: &'a [u8],
+    z: &'a [u8],
+) -> bool
     ensures { result ≡ same_status (status_at b.now s.now x) (status_at c.now z.now y) }
 {
     match x {

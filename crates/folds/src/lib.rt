@@ -295,7 +295,13 @@ fn is_tight_field(line: &[u8], c: usize, awaits: bool, fields: usize) -> bool
 }
 
 // The field of a tight line of n octets that stands in the block at start, with its colon at c.
-fn tight_field(start: usize, c: usize, n: usize, fields: usize, mark: usize) -> Result<Change, Refusal>
+fn tight_field(
+    start: usize,
+    c: usize,
+    n: usize,
+    fields: usize,
+    mark: usize,
+) -> Result<Change, Refusal>
     requires { (c + 5 ≤ n) × (start + n ≤ 65536) }
     ensures { result ≡ put_tight start c n fields mark }
 {

@@ -4,8 +4,8 @@ ghost use Rattle.maps.specs.Good.{Fits, Fit, good_place, good_field, good_fields
 ghost use Rattle.lookups.specs.Lookups.{named, seeking};
 ghost use Rattle.lent.specs.Table.{place_of, good_stored, place_at, field_at, fields_from, from_of, to_of, place_put, field_put};
 
-use leaves::refusals::Refusal;
 use leaves::names;
+use leaves::refusals::Refusal;
 use maps::{BlockOffset, Field, Place, StoreOffset};
 
 // Offsets of the store stand behind this number, those of the block before it.

@@ -7,9 +7,9 @@ ghost use Rattle.lookups.specs.Lookups.{finding};
 ghost use Rattle.codes.specs.Codes.{coding, length_of, kind_of};
 ghost use Rattle.lent.specs.Table.{field_at, map_in};
 
-use leaves::refusals::Refusal;
 use codes::line;
 use leaves::lengths;
+use leaves::refusals::Refusal;
 use lent::tables;
 use maps::Head;
 use standard::types;
@@ -70,12 +70,7 @@ pub fn content_length<'a>(
 }
 
 // The code of a record's type.
-pub fn record_type<'a>(
-    h: Head,
-    t: &[u32],
-    block: &'a [u8],
-    store: &'a [u8],
-) -> Result<u16, Refusal>
+pub fn record_type<'a>(h: Head, t: &[u32], block: &'a [u8], store: &'a [u8]) -> Result<u16, Refusal>
     requires { length t.now ≡ 1024 }
     ensures { result ≡ kind_of (map_in t.now h) block.now store.now }
 {

@@ -11,12 +11,11 @@ ghost use Rattle.reader.specs.Calls.{fed_from, finished_from, feeding, finishing
 ghost use Rattle.lent.specs.Table.{table_of, map_in};
 ghost use Rattle.lent_reader.specs.Lent.{fed_in, made_in};
 
-use maps::Field;
-use leaves::refusals::Refusal;
 use folds::Change;
+use leaves::refusals::Refusal;
 use lent::tables;
 use line_reader::Answer;
-use maps::{Head, Phase};
+use maps::{Field, Head, Phase};
 
 // A reading's answer over a lent table: the head it leaves, how many octets were taken.
 #[derive(Clone, Copy)]

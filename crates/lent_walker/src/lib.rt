@@ -60,7 +60,12 @@ fn spot<'a>(t: &[u32], n: usize, block: &'a [u8], store: &'a [u8]) -> Spots
 }
 
 // What a map opens that was judged already.
-fn open_good<'a>(h: Head, t: &[u32], block: &'a [u8], store: &'a [u8]) -> Result<(u64, u16), Refusal>
+fn open_good<'a>(
+    h: Head,
+    t: &[u32],
+    block: &'a [u8],
+    store: &'a [u8],
+) -> Result<(u64, u16), Refusal>
     requires { (length t.now ≡ 1024) × (Ok tt ≡ checked_done (map_in t.now h) block.now store.now) }
     ensures { result ≡ openingOf (map_in t.now h) block.now store.now }
 {
@@ -70,7 +75,13 @@ fn open_good<'a>(h: Head, t: &[u32], block: &'a [u8], store: &'a [u8]) -> Result
 }
 
 // What an answer comes to. A map that was just fed was judged, and is good.
-fn comes_to<'a>(answer: Result<Answer, Refusal>, h: Head, t: &[u32], block: &'a [u8], store: &'a [u8]) -> Result<Headed, Refusal>
+fn comes_to<'a>(
+    answer: Result<Answer, Refusal>,
+    h: Head,
+    t: &[u32],
+    block: &'a [u8],
+    store: &'a [u8],
+) -> Result<Headed, Refusal>
     requires { (length t.now ≡ 1024) × Judged answer (map_in t.now h) block.now store.now }
     ensures { result ≡ headed_by answer (openingOf (map_in t.now h) block.now store.now) }
 {

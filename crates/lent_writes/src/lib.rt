@@ -55,7 +55,13 @@ fn put_fields<'a>(
 }
 
 // Status, fields and the blank line, if the output holds them; 8 if it does not.
-fn give_map<'a>(out: &mut [u8], h: Head, t: &[u32], block: &'a [u8], store: &'a [u8]) -> Result<usize, Refusal>
+fn give_map<'a>(
+    out: &mut [u8],
+    h: Head,
+    t: &[u32],
+    block: &'a [u8],
+    store: &'a [u8],
+) -> Result<usize, Refusal>
     requires { (h.fields ≤ 256) × (length t.now ≡ 1024) }
     ensures { IsWritten (giving out.old (rebuilt (saying (map_in t.now h) block.now store.now))) result out.new }
 {
@@ -74,7 +80,13 @@ fn give_map<'a>(out: &mut [u8], h: Head, t: &[u32], block: &'a [u8], store: &'a 
 }
 
 // Status, fields and the blank line, whatever the map was read from.
-pub fn rebuild<'a>(h: Head, t: &[u32], block: &'a [u8], store: &'a [u8], out: &mut [u8]) -> Result<usize, Refusal>
+pub fn rebuild<'a>(
+    h: Head,
+    t: &[u32],
+    block: &'a [u8],
+    store: &'a [u8],
+    out: &mut [u8],
+) -> Result<usize, Refusal>
     requires { length t.now ≡ 1024 }
     ensures { IsWritten (rebuilding (map_in t.now h) block.now store.now out.old) result out.new }
 {
@@ -86,7 +98,13 @@ pub fn rebuild<'a>(h: Head, t: &[u32], block: &'a [u8], store: &'a [u8], out: &m
 }
 
 // The block as it was read, or the map rebuilt. An unedited map costs its checks and one copy of the block.
-pub fn write<'a>(h: Head, t: &[u32], block: &'a [u8], store: &'a [u8], out: &mut [u8]) -> Result<usize, Refusal>
+pub fn write<'a>(
+    h: Head,
+    t: &[u32],
+    block: &'a [u8],
+    store: &'a [u8],
+    out: &mut [u8],
+) -> Result<usize, Refusal>
     requires { length t.now ≡ 1024 }
     ensures { IsWritten (writing (map_in t.now h) block.now store.now out.old) result out.new }
 {

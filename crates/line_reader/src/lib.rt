@@ -50,7 +50,13 @@ pub fn colon_of(piece: &[u8], from: usize, k: usize, line: &[u8], whole: bool) -
     lines::find_octet(line, 0, 58)
 }
 
-fn handled_of(head: Head, change: Result<Change, Refusal>, taken: usize, answer: Result<Answer, Refusal>, going: bool) -> Handled
+fn handled_of(
+    head: Head,
+    change: Result<Change, Refusal>,
+    taken: usize,
+    answer: Result<Answer, Refusal>,
+    going: bool,
+) -> Handled
     ensures { result ≡ handled_of head change taken answer going }
 {
     Handled {
@@ -63,7 +69,13 @@ fn handled_of(head: Head, change: Result<Change, Refusal>, taken: usize, answer:
 }
 
 // What a change makes of a head whose line it handles, with the answer if nothing was refused.
-fn handled_by(h: Head, change: Result<Change, Refusal>, taken: usize, answer: Result<Answer, Refusal>, going: bool) -> Handled
+fn handled_by(
+    h: Head,
+    change: Result<Change, Refusal>,
+    taken: usize,
+    answer: Result<Answer, Refusal>,
+    going: bool,
+) -> Handled
     requires { slot_of change < 256 }
     ensures { result ≡ handled_by h change taken answer going }
 {

@@ -4,10 +4,9 @@
 ghost use Rattle.std.specs.Prelude.{◌≡◌, ◌≤◌, take, drop};
 ghost use Rattle.lookups.specs.Lookups.{named, seeking, finding, sighted_in, sighting, slot_of, shown_status, value_place, key_place, status_place, Handed};
 
-use maps::Place;
 use leaves::names;
 use leaves::refusals::Refusal;
-use maps::{Field, HeaderMap};
+use maps::{Field, HeaderMap, Place};
 
 // The first field from a given number on that has a name.
 fn seek<'a>(
@@ -56,7 +55,13 @@ pub fn sight<'a>(
 }
 
 // The number of the first field from a given number on that has a name.
-pub fn find<'a>(m: HeaderMap, block: &'a [u8], store: &'a [u8], name: &[u8], from: usize) -> Result<Option<usize>, Refusal>
+pub fn find<'a>(
+    m: HeaderMap,
+    block: &'a [u8],
+    store: &'a [u8],
+    name: &[u8],
+    from: usize,
+) -> Result<Option<usize>, Refusal>
     ensures { result ≡ finding m block.now store.now name.now from }
 {
     let s = sight(m, block, store, name, from);

@@ -151,7 +151,12 @@ fn open_texts(status: &[u8], value: &[u8], kind: u16) -> Result<(u64, u16), Refu
 }
 
 // What a status opens with what a pass over the fields found.
-pub fn open_spots<'a>(status: Option<Place>, z: Spots, block: &'a [u8], store: &'a [u8]) -> Result<(u64, u16), Refusal>
+pub fn open_spots<'a>(
+    status: Option<Place>,
+    z: Spots,
+    block: &'a [u8],
+    store: &'a [u8],
+) -> Result<(u64, u16), Refusal>
     ensures { result ≡ opened_at block.now store.now status z }
 {
     match status {
@@ -179,7 +184,11 @@ pub fn open_good<'a>(m: HeaderMap, block: &'a [u8], store: &'a [u8]) -> Result<(
 }
 
 // What a map opens.
-pub fn open_record<'a>(m: HeaderMap, block: &'a [u8], store: &'a [u8]) -> Result<(u64, u16), Refusal>
+pub fn open_record<'a>(
+    m: HeaderMap,
+    block: &'a [u8],
+    store: &'a [u8],
+) -> Result<(u64, u16), Refusal>
     ensures { result ≡ opening m block.now store.now }
 {
     let s = maps::check_done(m, block, store);

@@ -72,7 +72,12 @@ fn map_of(block: &mut [u8], store: &mut [u8], text: &[u8]) -> HeaderMap {
     fed.map
 }
 
-fn length_found<'a>(found: Result<Option<usize>, Refusal>, m: HeaderMap, block: &'a [u8], store: &'a [u8]) -> usize
+fn length_found<'a>(
+    found: Result<Option<usize>, Refusal>,
+    m: HeaderMap,
+    block: &'a [u8],
+    store: &'a [u8],
+) -> usize
     ensures { result < 1024 }
 {
     match found {

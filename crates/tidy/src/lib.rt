@@ -9,9 +9,8 @@ ghost use Rattle.maps.specs.Said.{pair_at, status_at};
 ghost use Rattle.rebuilds.specs.Clean.{clean_pairs, clean_status};
 ghost use Rattle.tidy.specs.Calls.{cleaning, tidying};
 
-use maps::Place;
 use leaves::refusals::Refusal;
-use maps::{Field, HeaderMap};
+use maps::{Field, HeaderMap, Place};
 
 fn status_is_clean<'a>(s: Option<Place>, block: &'a [u8], store: &'a [u8]) -> bool
     ensures { result ≡ clean_status (status_at block.now store.now s) }

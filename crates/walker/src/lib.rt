@@ -242,7 +242,12 @@ pub fn start(m: HeaderMap, room: usize, position: u64, block: &[u8], store: &[u8
 }
 
 // What an answer comes to. A map that was just fed was judged, and is good.
-fn comes_to<'a>(answer: Result<Answer, Refusal>, m: HeaderMap, block: &'a [u8], store: &'a [u8]) -> Result<Headed, Refusal>
+fn comes_to<'a>(
+    answer: Result<Answer, Refusal>,
+    m: HeaderMap,
+    block: &'a [u8],
+    store: &'a [u8],
+) -> Result<Headed, Refusal>
     requires { Judged answer m block.now store.now }
     ensures { result ≡ headed_by answer (openingOf m block.now store.now) }
 {

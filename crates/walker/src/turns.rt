@@ -53,7 +53,13 @@ pub fn kept_head(h: Head, kept: Kept) -> Head
 }
 
 // A trail at another stage.
-fn at_stage(t: Trail, stage: Stage, taken: usize, step: Result<Step, Refusal>, kept: Kept) -> Trailed
+fn at_stage(
+    t: Trail,
+    stage: Stage,
+    taken: usize,
+    step: Result<Step, Refusal>,
+    kept: Kept,
+) -> Trailed
     ensures { result ≡ at_stage t stage taken step kept }
 {
     let trail = Trail { stage, ..t };
@@ -370,7 +376,13 @@ fn opens(t: Trail, taken: usize, o: Result<(u64, u16), Refusal>) -> Trailed
 }
 
 // What a header came to, the reader having had k of a piece of n octets; the trail stands behind those that were taken.
-pub fn behind_header(h: Result<Headed, Refusal>, t: Trail, taken: usize, k: usize, n: usize) -> Trailed
+pub fn behind_header(
+    h: Result<Headed, Refusal>,
+    t: Trail,
+    taken: usize,
+    k: usize,
+    n: usize,
+) -> Trailed
     ensures { Follows t result (λ w. headed_walked h w.map w.position w.rest w.start taken k n) }
 {
     match h {

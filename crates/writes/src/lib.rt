@@ -5,9 +5,8 @@ ghost use Rattle.std.specs.Prelude.{◌≡◌, ◌∷◌, [], map, ◌+◌, ◌�
 ghost use Rattle.maps.specs.Said.{pair_at, status_at};
 ghost use Rattle.writes.specs.Written.{Put, pair_line, pair_lines, status_line, giving, rebuilding, untouched, writing, IsWritten};
 
-use maps::Place;
 use leaves::refusals::Refusal;
-use maps::{Field, HeaderMap};
+use maps::{Field, HeaderMap, Place};
 
 // Writes a text over the output from at on; answers where it ends.
 fn put(out: &mut [u8], at: usize, text: &[u8]) -> usize
@@ -144,7 +143,12 @@ pub fn put_status<'a>(out: &mut [u8], s: Option<Place>, block: &'a [u8], store: 
 }
 
 // Status, fields and the blank line, whatever the map was read from.
-pub fn rebuild<'a>(m: HeaderMap, block: &'a [u8], store: &'a [u8], out: &mut [u8]) -> Result<usize, Refusal>
+pub fn rebuild<'a>(
+    m: HeaderMap,
+    block: &'a [u8],
+    store: &'a [u8],
+    out: &mut [u8],
+) -> Result<usize, Refusal>
     ensures { IsWritten (rebuilding m block.now store.now out.old) result out.new }
 {
     let s = maps::check_done(m, block, store);
@@ -176,7 +180,12 @@ pub fn is_untouched(edited: bool, count: usize) -> bool
 }
 
 // The block as it was read, or the map rebuilt.
-pub fn write<'a>(m: HeaderMap, block: &'a [u8], store: &'a [u8], out: &mut [u8]) -> Result<usize, Refusal>
+pub fn write<'a>(
+    m: HeaderMap,
+    block: &'a [u8],
+    store: &'a [u8],
+    out: &mut [u8],
+) -> Result<usize, Refusal>
     ensures { IsWritten (writing m block.now store.now out.old) result out.new }
 {
     let s = maps::check_done(m, block, store);
