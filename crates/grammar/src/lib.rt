@@ -22,17 +22,16 @@ enum Stage {
 }
 
 // A line begins that is a field's or the blank one.
+#[tactic(auto, using(leaves::proofs::ChoiceLaws::choices), unfolding(crate::specs::Walk::opened))]
 fn open_line(t: &[u8; 256], x: u8) -> Stage
     requires { Classified t.now }
     ensures { result ≡ opened x }
 {
-    if classes::is_token(t, x) {
-        return Stage::Key;
+    match x {
+        _ if classes::is_token(t, x) => Stage::Key,
+        b'\r' => Stage::Closing,
+        _ => Stage::Wrong,
     }
-    if x == 13 {
-        return Stage::Closing;
-    }
-    Stage::Wrong
 }
 
 // A line begins that may be a folded one too.
@@ -41,13 +40,10 @@ fn fold_line(t: &[u8; 256], x: u8) -> Stage
     requires { Classified t.now }
     ensures { result ≡ folded x }
 {
-    if x == 32 {
-        return Stage::Text;
+    match x {
+        b' ' | b'\t' => Stage::Text,
+        _ => open_line(t, x),
     }
-    if x == 9 {
-        return Stage::Text;
-    }
-    open_line(t, x)
 }
 
 #[tactic(auto, using(leaves::proofs::ChoiceLaws::choices), unfolding(crate::specs::Walk::keyed))]
@@ -55,26 +51,23 @@ fn take_key(t: &[u8; 256], x: u8) -> Stage
     requires { Classified t.now }
     ensures { result ≡ keyed x }
 {
-    if classes::is_token(t, x) {
-        return Stage::Key;
+    match x {
+        _ if classes::is_token(t, x) => Stage::Key,
+        b':' => Stage::Text,
+        _ => Stage::Wrong,
     }
-    if x == 58 {
-        return Stage::Text;
-    }
-    Stage::Wrong
 }
 
+#[tactic(auto, using(leaves::proofs::ChoiceLaws::choices), unfolding(crate::specs::Walk::texted))]
 fn take_text(t: &[u8; 256], x: u8) -> Stage
     requires { Classified t.now }
     ensures { result ≡ texted x }
 {
-    if classes::is_text(t, x) {
-        return Stage::Text;
+    match x {
+        _ if classes::is_text(t, x) => Stage::Text,
+        b'\r' => Stage::Return,
+        _ => Stage::Wrong,
     }
-    if x == 13 {
-        return Stage::Return;
-    }
-    Stage::Wrong
 }
 
 // Behind a CR only LF goes on.
@@ -82,10 +75,7 @@ fn take_text(t: &[u8; 256], x: u8) -> Stage
 fn await_lf(onward: Stage, x: u8) -> Stage
     ensures { result ≡ awaited onward x }
 {
-    if x == 10 {
-        return onward;
-    }
-    Stage::Wrong
+    if x == b'\n' { onward } else { Stage::Wrong }
 }
 
 fn next(t: &[u8; 256], stage: Stage, x: u8) -> Stage
@@ -99,24 +89,14 @@ fn next(t: &[u8; 256], stage: Stage, x: u8) -> Stage
         Stage::Text => take_text(t, x),
         Stage::Return => await_lf(Stage::Line, x),
         Stage::Closing => await_lf(Stage::Over, x),
-        Stage::Over => Stage::Wrong,
-        Stage::Wrong => Stage::Wrong,
+        Stage::Over | Stage::Wrong => Stage::Wrong,
     }
 }
 
 fn is_over(stage: Stage) -> bool
     ensures { result ≡ is_over stage }
 {
-    match stage {
-        Stage::First => false,
-        Stage::Line => false,
-        Stage::Key => false,
-        Stage::Text => false,
-        Stage::Return => false,
-        Stage::Closing => false,
-        Stage::Over => true,
-        Stage::Wrong => false,
-    }
+    matches!(stage, Stage::Over)
 }
 
 // Whether the octets are fields and the blank line.
@@ -125,10 +105,8 @@ fn are_fields(t: &[u8; 256], lines: &[u8]) -> bool
     ensures { result ≡ walk Stage.First lines.now }
 {
     let mut stage = Stage::First;
-    let mut i = 0;
-    while i < lines.len() {
-        stage = next(t, stage, lines[i]);
-        i += 1;
+    for x in lines {
+        stage = next(t, stage, *x);
     }
     is_over(stage)
 }
@@ -136,10 +114,7 @@ fn are_fields(t: &[u8; 256], lines: &[u8]) -> bool
 fn is_version(line: &[u8]) -> bool
     ensures { result ≡ is_version line.now }
 {
-    if equals::same_octets(line, b"WARC/1.0\r\n") {
-        return true;
-    }
-    equals::same_octets(line, b"WARC/1.1\r\n")
+    equals::same_octets(line, b"WARC/1.0\r\n") || equals::same_octets(line, b"WARC/1.1\r\n")
 }
 
 // Whether the octets are a header by the grammar: the version line, fields with their folded lines, the blank line, and nothing behind it.
@@ -149,9 +124,5 @@ pub fn grammatical(octets: &[u8]) -> bool
     if octets.len() < 10 {
         return false;
     }
-    if is_version(&octets[0..10]) {
-        let t = classes::table();
-        return are_fields(&t, &octets[10..]);
-    }
-    false
+    is_version(&octets[..10]) && are_fields(&classes::table(), &octets[10..])
 }

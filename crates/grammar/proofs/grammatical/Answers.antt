@@ -14,7 +14,7 @@ returns-then-is_version c =
     let s = c.args.octets.now in
     c.are_fields.ensures ∙ ap (walk First) (tail_all s 10) ∙ sym (versioned s (sym c.is_version.ensures ∙ c.if-is_version.true))
 
-pub returns : goal.returns
-returns c =
+pub returns-else-is_version : goal.returns-else-is_version
+returns-else-is_version c =
     let s = c.args.octets.now in
-    sym (unversioned s (sym c.is_version.ensures ∙ c.if-is_version.false))
+    c.if-is_version.false ∙ sym (unversioned s (sym c.is_version.ensures ∙ c.if-is_version.false))
