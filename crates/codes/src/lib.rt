@@ -18,11 +18,12 @@ pub fn status_text<'a>(status: Option<Place>, block: &'a [u8], store: &'a [u8]) 
 {
     match status {
         Some(place) => maps::part(block, store, place),
-        None => &block[0..0],
+        None => &block[..0],
     }
 }
 
 // The status code, if there is one.
+#[tactic(auto, using(maps::proofs::GoodLaws::handed_on, crate::proofs::MapLaws::code_fine), unfolding(crate::specs::Codes::coding))]
 pub fn status_code<'a>(
     m: HeaderMap,
     block: &'a [u8],
@@ -36,12 +37,17 @@ pub fn status_code<'a>(
 }
 
 // Whether there is a reason: an empty one is one.
+#[tactic(auto, using(crate::proofs::MapLaws::phrase_is), unfolding(crate::specs::Codes::reasoning))]
 pub fn has_reason<'a>(m: HeaderMap, block: &'a [u8], store: &'a [u8]) -> Result<bool, Refusal>
     ensures { result ≡ reasoning m block.now store.now }
 {
-    maps::check_done(m, block, store)?;
-    let text = status_text(m.status, block, store);
-    Ok(line::reason_start(text).is_some())
+    match maps::check_done(m, block, store) {
+        Ok(()) => {
+            let text = status_text(m.status, block, store);
+            Ok(line::reason_start(text).is_some())
+        }
+        Err(e) => Err(e),
+    }
 }
 
 // The reason, as a part of the block or of the store.
@@ -63,12 +69,13 @@ pub fn content_length<'a>(
 ) -> Result<Option<u64>, Refusal>
     ensures { result ≡ length_of m block.now store.now }
 {
-    match lookups::sight(m, block, store, b"Content-Length", 0)? {
-        Some((_, field)) => {
+    match lookups::sight(m, block, store, b"Content-Length", 0) {
+        Ok(Some((_, field))) => {
             let value = maps::part(block, store, field.value);
             Ok(Some(lengths::content_length(value)))
         }
-        None => Ok(None),
+        Ok(None) => Ok(None),
+        Err(refusal) => Err(refusal),
     }
 }
 
@@ -76,11 +83,12 @@ pub fn content_length<'a>(
 pub fn record_type<'a>(m: HeaderMap, block: &'a [u8], store: &'a [u8]) -> Result<u16, Refusal>
     ensures { result ≡ kind_of m block.now store.now }
 {
-    match lookups::sight(m, block, store, b"WARC-Type", 0)? {
-        Some((_, field)) => {
-            let value = maps::part(block, store, field.value);
-            Ok(types::record_type(value))
+    match lookups::sight(m, block, store, b"WARC-Type", 0) {
+        Ok(Some((_, kind))) => {
+            let name = maps::part(block, store, kind.value);
+            Ok(types::record_type(name))
         }
-        None => Ok(0),
+        Ok(None) => Ok(0),
+        Err(refused) => Err(refused),
     }
 }

@@ -52,8 +52,9 @@ module _ (m : HeaderMap) (b s : List ℕ) (k : HeaderMap) (c z : List ℕ) where
           no_by (said _ false refl d ∙ and_false (same_status (status_at b s m.status) (status_at c z k.status)) false refl)
 
       module _ (g : same_status (status_at b s m.status) (status_at c z k.status) ≡ true) (h : m.fields ≡ k.fields) where
-        pub same_yes : same_pairs (map (pair_at b s) (take m.fields m.table)) (map (pair_at c z) (take m.fields k.table)) ≡ true → Ok true ≡ comparing m b s k c z
-        same_yes d = yes_by (said true true g (ap (λ (n : ℕ). same_pairs (map (pair_at b s) (live m)) (map (pair_at c z) (take n k.table))) (sym h) ∙ d))
+        pairs_are : (r : Bool) → r ≡ same_pairs (map (pair_at b s) (take m.fields m.table)) (map (pair_at c z) (take m.fields k.table)) → same_pairs (map (pair_at b s) (live m)) (map (pair_at c z) (live k)) ≡ r
+        pairs_are r d = ap (λ (n : ℕ). same_pairs (map (pair_at b s) (live m)) (map (pair_at c z) (take n k.table))) (sym h) ∙ sym d
 
-        pub same_no : same_pairs (map (pair_at b s) (take m.fields m.table)) (map (pair_at c z) (take m.fields k.table)) ≡ false → Ok false ≡ comparing m b s k c z
-        same_no d = no_by (said true false g (ap (λ (n : ℕ). same_pairs (map (pair_at b s) (live m)) (map (pair_at c z) (take n k.table))) (sym h) ∙ d))
+        pub same_is : (r : Bool) → r ≡ same_pairs (map (pair_at b s) (take m.fields m.table)) (map (pair_at c z) (take m.fields k.table)) → Ok r ≡ comparing m b s k c z
+        same_is true d = yes_by (said true true g (pairs_are true d))
+        same_is false d = no_by (said true false g (pairs_are false d))

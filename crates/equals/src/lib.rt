@@ -10,20 +10,11 @@ use leaves::refusals::Refusal;
 use maps::{Field, HeaderMap, Place};
 
 // Whether two texts are the same, octet by octet.
+#[tactic(auto, using(crate::proofs::OctetLaws::same_list_is))]
 pub fn same_octets(a: &[u8], b: &[u8]) -> bool
     ensures { result ≡ same_list a.now b.now }
 {
-    if a.len() != b.len() {
-        return false;
-    }
-    let mut i = 0;
-    while i < a.len() {
-        if a[i] != b[i] {
-            return false;
-        }
-        i += 1;
-    }
-    true
+    a == b
 }
 
 // Whether the first n fields of two tables say the same, in the same order.
@@ -39,25 +30,13 @@ fn same_fields<'a>(
     requires { n ≤ 256 }
     ensures { result ≡ same_pairs (map (pair_at b.now s.now) (take n t)) (map (pair_at c.now z.now) (take n u)) }
 {
-    let mut i = 0;
-    while i < n {
+    for i in 0..n {
         let f = t[i];
         let g = u[i];
-        let fk = f.key;
-        let gk = g.key;
-        let k = maps::part(b, s, fk);
-        let l = maps::part(c, z, gk);
-        if same_octets(k, l) {
-            let fv = f.value;
-            let gv = g.value;
-            let v = maps::part(b, s, fv);
-            let w = maps::part(c, z, gv);
-            if same_octets(v, w) {
-                i += 1;
-            } else {
-                return false;
-            }
-        } else {
+        if !same_octets(maps::part(b, s, f.key), maps::part(c, z, g.key)) {
+            return false;
+        }
+        if !same_octets(maps::part(b, s, f.value), maps::part(c, z, g.value)) {
             return false;
         }
     }
@@ -75,19 +54,11 @@ fn same_status<'a>(
 ) -> bool
     ensures { result ≡ same_status (status_at b.now s.now x) (status_at c.now z.now y) }
 {
-    match x {
-        None => match y {
-            None => true,
-            Some(q) => false,
-        },
-        Some(p) => match y {
-            None => false,
-            Some(q) => {
-                let k = maps::part(b, s, p);
-                let l = maps::part(c, z, q);
-                same_octets(k, l)
-            }
-        },
+    match (x, y) {
+        (Some(p), Some(q)) => same_octets(maps::part(b, s, p), maps::part(c, z, q)),
+        (None, None) => true,
+        (None, Some(_)) => false,
+        (Some(_), None) => false,
     }
 }
 
@@ -102,29 +73,13 @@ pub fn compare<'a>(
 ) -> Result<bool, Refusal>
     ensures { result ≡ comparing m b.now s.now k c.now z.now }
 {
-    let one = maps::check_done(m, b, s);
-    match one {
-        Ok(()) => {
-            let two = maps::check_done(k, c, z);
-            match two {
-                Ok(()) => {
-                    let n = m.fields;
-                    if n == k.fields {
-                        let x = m.status;
-                        let y = k.status;
-                        if same_status(x, y, b, s, c, z) {
-                            let t = m.table;
-                            let u = k.table;
-                            if same_fields(t, u, n, b, s, c, z) {
-                                return Ok(true);
-                            }
-                        }
-                    }
-                    Ok(false)
-                }
-                Err(x) => Err(x),
-            }
-        }
-        Err(x) => Err(x),
+    maps::check_done(m, b, s)?;
+    maps::check_done(k, c, z)?;
+    if m.fields != k.fields {
+        return Ok(false);
     }
+    if !same_status(m.status, k.status, b, s, c, z) {
+        return Ok(false);
+    }
+    Ok(same_fields(m.table, k.table, m.fields, b, s, c, z))
 }

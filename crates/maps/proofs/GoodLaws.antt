@@ -1,6 +1,7 @@
 -- The tests of a map, as facts. Assumes nothing.
-use Rattle.std.specs.Prelude.{Err, Ok, Result, ⊤}
-use mathlib.Core.Path.{◌≡◌, refl, sym}
+use Rattle.std.specs.Prelude.{Err, Ok, Result, IsErrAnd, ⊤}
+use Rattle.std.proofs.lemmas.Result.{err_from_is_err_and}
+use mathlib.Core.Path.{◌≡◌, refl, sym, ap, ◌∙◌}
 use mathlib.Core.Bool.{Bool, true, false, ◌&&◌, false≢true}
 use mathlib.Core.List.{List, []}
 use Prim.Native.Nat.{ℕ, suc, ◌≤◌, ◌<◌}
@@ -143,3 +144,7 @@ ready_of ready m b s e =
       status = f.status;
       fields = f.fields;
     }
+
+-- a refusal that `?` hands on
+pub handed_on : {T : Type 0} (r t : Result T Refusal) (x : Refusal) → IsErrAnd r (λ y. y ≡ x) → Err x ≡ t → r ≡ t
+handed_on r t x h e = let p = err_from_is_err_and r h in p.1 ∙ ap Err p.2 ∙ e

@@ -21,23 +21,24 @@ fn is_partial(code: Result<Option<u16>, Refusal>) -> bool
     match code {
         Ok(Some(n)) => n == 206,
         Ok(None) => false,
-        Err(x) => false,
+        Err(_) => false,
     }
 }
 
-fn compare_tags(x: &[u8], y: &[u8]) -> Result<Verdict, Refusal>
+fn compare_tags(x: &[u8], y: &[u8]) -> Verdict
     ensures { result ≡ tagged x.now y.now }
 {
-    if x.len() == 0 {
-        return Ok(Verdict::NoTag);
+    if x.is_empty() {
+        return Verdict::NoTag;
     }
-    if y.len() == 0 {
-        return Ok(Verdict::NoTag);
+    if y.is_empty() {
+        return Verdict::NoTag;
     }
     if equals::same_octets(x, y) {
-        return Ok(Verdict::Append);
+        Verdict::Append
+    } else {
+        Verdict::Differ
     }
-    Ok(Verdict::Differ)
 }
 
 // The first map, with its block b and its store s, is checked whole before the second.
@@ -51,24 +52,12 @@ pub fn resume<'a>(
 ) -> Result<Verdict, Refusal>
     ensures { result ≡ resuming m b.now s.now k c.now z.now }
 {
-    let one = maps::check_done(m, b, s);
-    match one {
-        Ok(()) => {
-            let two = maps::check_done(k, c, z);
-            match two {
-                Ok(()) => {
-                    let code = codes::status_code(k, c, z);
-                    if is_partial(code) {
-                        let x = singles::only_value(m, b, s, b"ETag");
-                        let y = singles::only_value(k, c, z, b"ETag");
-                        compare_tags(x, y)
-                    } else {
-                        Ok(Verdict::NotPartial)
-                    }
-                }
-                Err(x) => Err(x),
-            }
-        }
-        Err(x) => Err(x),
+    maps::check_done(m, b, s)?;
+    maps::check_done(k, c, z)?;
+    if !is_partial(codes::status_code(k, c, z)) {
+        return Ok(Verdict::NotPartial);
     }
+    let first = singles::only_value(m, b, s, b"ETag");
+    let second = singles::only_value(k, c, z, b"ETag");
+    Ok(compare_tags(first, second))
 }

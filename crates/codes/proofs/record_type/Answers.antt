@@ -1,26 +1,24 @@
 -- `codes::record_type` meets its contract. Assumes nothing.
-use Rattle.std.proofs.lemmas.Result.{err_from_is_err_and}
 use Rattle.codes.proofs.MapLaws.{kind_found, kind_missing, kind_refused}
 use Rattle.lookups.proofs.FoundLaws.{sight_at, sight_value, sight_missing, sight_blind}
 use Rattle.standard.specs.declared.names.WarcHeader.TheVariants.{WarcType}
 use Rattle.standard.specs.Names.{name_of}
 use mathlib.Core.Path.{sym, ◌∙◌, ap}
-use Rattle.std.specs.Prelude.{Ok, Err}
+use Rattle.std.specs.Prelude.{Ok}
 use Rattle.codes.proofs.record_type.Goals as goal
 
-pub returns-in_err-field : goal.returns-in_err-field
-returns-in_err-field c =
+pub returns-in-Err : goal.returns-in-Err
+returns-in-Err c =
     let a = c.args in
-    let p = err_from_is_err_and c.from_residual.result c.from_residual.ensures.1 in
-    p.1 ∙ ap Err p.2 ∙ kind_refused _ _ _ _ (sight_blind a.m a.block.now a.store.now (name_of WarcType) 0 _ (sym c.sight.ensures ∙ c.in_err-field.was))
+    kind_refused _ _ _ _ (sight_blind a.m a.block.now a.store.now (name_of WarcType) 0 _ (sym c.sight.ensures ∙ c.in-Err.is))
 
-pub returns-in-Some : goal.returns-in-Some
-returns-in-Some c =
+pub returns-in-Ok-Some : goal.returns-in-Ok-Some
+returns-in-Ok-Some c =
     let a = c.args in
-    let e = sym c.sight.ensures ∙ c.in_ok-field.was ∙ ap Ok c.in-Some.is in
-    kind_found a.m a.block.now a.store.now _ _ _ (c.part-value.ensures.is ∙ sight_value a.m a.block.now a.store.now (name_of WarcType) 0 _ _ e) (sight_at a.m a.block.now a.store.now (name_of WarcType) 0 _ _ e) c.record_type.ensures
+    let e = sym c.sight.ensures ∙ c.in-Ok-Some.is ∙ ap Ok c.in-Ok-Some.field-0-is in
+    kind_found a.m a.block.now a.store.now _ _ _ (c.part-name.ensures.is ∙ sight_value a.m a.block.now a.store.now (name_of WarcType) 0 _ _ e) (sight_at a.m a.block.now a.store.now (name_of WarcType) 0 _ _ e) c.record_type.ensures
 
-pub returns-in-None : goal.returns-in-None
-returns-in-None c =
+pub returns-in-Ok-None : goal.returns-in-Ok-None
+returns-in-Ok-None c =
     let a = c.args in
-    kind_missing _ _ _ (sight_missing a.m a.block.now a.store.now (name_of WarcType) 0 (sym c.sight.ensures ∙ c.in_ok-field.was ∙ ap Ok c.in-None.is))
+    kind_missing _ _ _ (sight_missing a.m a.block.now a.store.now (name_of WarcType) 0 (sym c.sight.ensures ∙ c.in-Ok-None.is ∙ ap Ok c.in-Ok-None.field-0-is))
