@@ -1,8 +1,9 @@
 // Map equality: status, keys and values by octets.
 #![tactic(auto)]
 
-ghost use Rattle.std.specs.Prelude.{◌≡◌, map, ◌≤◌, take};
+ghost use Rattle.std.specs.Prelude.{◌≡◌, Ok, map, ◌≤◌, take};
 ghost use Rattle.leaves.specs.Octets.{same_list};
+ghost use Rattle.maps.specs.Good.{checked_done};
 ghost use Rattle.maps.specs.Said.{pair_at, status_at};
 ghost use Rattle.equals.specs.Equal.{same_pairs, same_status, comparing};
 
@@ -62,7 +63,29 @@ fn same_status<'a>(
     }
 }
 
+// Whether two maps say the same that were checked already.
+fn compare_checked<'a>(
+    m: HeaderMap,
+    b: &'a [u8],
+    s: &'a [u8],
+    k: HeaderMap,
+    c: &'a [u8],
+    z: &'a [u8],
+) -> bool
+    requires { (Ok tt ≡ checked_done m b.now s.now) × (Ok tt ≡ checked_done k c.now z.now) }
+    ensures { Ok result ≡ comparing m b.now s.now k c.now z.now }
+{
+    if m.fields != k.fields {
+        return false;
+    }
+    if !same_status(m.status, k.status, b, s, c, z) {
+        return false;
+    }
+    same_fields(m.table, k.table, m.fields, b, s, c, z)
+}
+
 // Whether two maps say the same. The first map, with its block b and its store s, is checked whole before the second.
+#[tactic(auto, using(maps::proofs::GoodLaws::handed_on), unfolding(crate::specs::Equal::comparing))]
 pub fn compare<'a>(
     m: HeaderMap,
     b: &'a [u8],
@@ -75,11 +98,5 @@ pub fn compare<'a>(
 {
     maps::check_done(m, b, s)?;
     maps::check_done(k, c, z)?;
-    if m.fields != k.fields {
-        return Ok(false);
-    }
-    if !same_status(m.status, k.status, b, s, c, z) {
-        return Ok(false);
-    }
-    Ok(same_fields(m.table, k.table, m.fields, b, s, c, z))
+    Ok(compare_checked(m, b, s, k, c, z))
 }

@@ -1,7 +1,8 @@
 // The resume check: may the second message's body be appended to the first's.
 #![tactic(auto)]
 
-ghost use Rattle.std.specs.Prelude.{◌≡◌};
+ghost use Rattle.std.specs.Prelude.{◌≡◌, Ok};
+ghost use Rattle.maps.specs.Good.{checked_done};
 ghost use Rattle.resume.specs.Resume.{is_partial, tagged, resuming};
 
 use leaves::refusals::Refusal;
@@ -26,12 +27,12 @@ fn is_partial(code: Result<Option<u16>, Refusal>) -> bool
 }
 
 fn compare_tags(x: &[u8], y: &[u8]) -> Verdict
-    ensures { result ≡ tagged x.now y.now }
+    ensures { Ok result ≡ tagged x.now y.now }
 {
-    if x.is_empty() {
+    if x.len() == 0 {
         return Verdict::NoTag;
     }
-    if y.is_empty() {
+    if y.len() == 0 {
         return Verdict::NoTag;
     }
     if equals::same_octets(x, y) {
@@ -41,7 +42,29 @@ fn compare_tags(x: &[u8], y: &[u8]) -> Verdict
     }
 }
 
+// What two maps that were checked already come to.
+fn resume_checked<'a>(
+    m: HeaderMap,
+    b: &'a [u8],
+    s: &'a [u8],
+    k: HeaderMap,
+    c: &'a [u8],
+    z: &'a [u8],
+) -> Verdict
+    requires { (Ok tt ≡ checked_done m b.now s.now) × (Ok tt ≡ checked_done k c.now z.now) }
+    ensures { Ok result ≡ resuming m b.now s.now k c.now z.now }
+{
+    if is_partial(codes::status_code(k, c, z)) {
+        let first = singles::only_value(m, b, s, b"ETag");
+        let second = singles::only_value(k, c, z, b"ETag");
+        compare_tags(first, second)
+    } else {
+        Verdict::NotPartial
+    }
+}
+
 // The first map, with its block b and its store s, is checked whole before the second.
+#[tactic(auto, using(maps::proofs::GoodLaws::handed_on), unfolding(crate::specs::Resume::resuming))]
 pub fn resume<'a>(
     m: HeaderMap,
     b: &'a [u8],
@@ -54,10 +77,5 @@ pub fn resume<'a>(
 {
     maps::check_done(m, b, s)?;
     maps::check_done(k, c, z)?;
-    if !is_partial(codes::status_code(k, c, z)) {
-        return Ok(Verdict::NotPartial);
-    }
-    let first = singles::only_value(m, b, s, b"ETag");
-    let second = singles::only_value(k, c, z, b"ETag");
-    Ok(compare_tags(first, second))
+    Ok(resume_checked(m, b, s, k, c, z))
 }

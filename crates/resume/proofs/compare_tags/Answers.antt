@@ -12,5 +12,5 @@ returns-then-y-eq0 c = tags_second _ _ c.if-x-eq0.false c.if-y-eq0.true
 pub returns-then-same_octets : goal.returns-then-same_octets
 returns-then-same_octets c = tags_same _ _ c.if-x-eq0.false c.if-y-eq0.false (sym c.same_octets.ensures ∙ c.if-same_octets.true)
 
-pub returns : goal.returns
-returns c = tags_differ _ _ c.if-x-eq0.false c.if-y-eq0.false (sym c.same_octets.ensures ∙ c.if-same_octets.false)
+pub returns-else-same_octets : goal.returns-else-same_octets
+returns-else-same_octets c = tags_differ _ _ c.if-x-eq0.false c.if-y-eq0.false (sym c.same_octets.ensures ∙ c.if-same_octets.false)
