@@ -58,11 +58,8 @@ module _ (m : HeaderMap) (b s : List ℕ) where
     unfolding cleaning clean
     by t h = rw (sym e, said_is m b s, h)
 
-    pub clean_yes : clean_status (status_at b s m.status) ≡ true → clean_pairs (map (pair_at b s) (take m.fields m.table)) ≡ true → Ok true ≡ cleaning m b s
-    clean_yes f g = by true (rw (f, g))
-
-    pub fields_not : clean_pairs (map (pair_at b s) (take m.fields m.table)) ≡ false → Ok false ≡ cleaning m b s
-    fields_not g = by false (and_false (clean_status (status_at b s m.status)) _ g)
+    pub clean_is : clean_status (status_at b s m.status) ≡ true → (r : Bool) → r ≡ clean_pairs (map (pair_at b s) (take m.fields m.table)) → Ok r ≡ cleaning m b s
+    clean_is f r g = by r (rw (f, ← g))
 
     pub status_not : clean_status (status_at b s m.status) ≡ false → Ok false ≡ cleaning m b s
     status_not f = by false (rw f)

@@ -11,8 +11,7 @@ use Rattle.rebuilds.specs.Clean.{clean, tidy}
 
 -- "all answer yes or no"
 abbrev pub answer : Bool → Result Bool Refusal
-answer true = Ok true
-answer false = Ok false
+answer t = Ok t
 
 -- "Clean is a map call": 3, 2, 7, then whether what the map says is clean
 unfoldable pub cleaning : HeaderMap → List ℕ → List ℕ → Result Bool Refusal

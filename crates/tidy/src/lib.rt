@@ -4,7 +4,8 @@
 mod scan;
 mod texts;
 
-ghost use Rattle.std.specs.Prelude.{◌≡◌, map, ◌≤◌, take};
+ghost use Rattle.std.specs.Prelude.{◌≡◌, Ok, map, ◌≤◌, take};
+ghost use Rattle.maps.specs.Good.{checked_done};
 ghost use Rattle.maps.specs.Said.{pair_at, status_at};
 ghost use Rattle.rebuilds.specs.Clean.{clean_pairs, clean_status};
 ghost use Rattle.tidy.specs.Calls.{cleaning, tidying};
@@ -17,10 +18,7 @@ fn status_is_clean<'a>(s: Option<Place>, block: &'a [u8], store: &'a [u8]) -> bo
 {
     match s {
         None => true,
-        Some(p) => {
-            let text = maps::part(block, store, p);
-            texts::is_clean_status(text)
-        }
+        Some(p) => texts::is_clean_status(maps::part(block, store, p)),
     }
 }
 
@@ -29,41 +27,35 @@ fn are_clean<'a>(t: [Field; 256], n: usize, block: &'a [u8], store: &'a [u8]) ->
     requires { n ≤ 256 }
     ensures { result ≡ clean_pairs (map (pair_at block.now store.now) (take n t)) }
 {
-    let mut i = 0;
-    while i < n {
+    for i in 0..n {
         let f = t[i];
-        let kp = f.key;
-        let vp = f.value;
-        let key = maps::part(block, store, kp);
-        let value = maps::part(block, store, vp);
-        if texts::is_clean_pair(key, value) {
-            i += 1;
-        } else {
+        let key = maps::part(block, store, f.key);
+        let value = maps::part(block, store, f.value);
+        if !texts::is_clean_pair(key, value) {
             return false;
         }
     }
     true
 }
 
+// Whether what a map says is clean that was checked already.
+fn is_clean<'a>(m: HeaderMap, block: &'a [u8], store: &'a [u8]) -> bool
+    requires { Ok tt ≡ checked_done m block.now store.now }
+    ensures { Ok result ≡ cleaning m block.now store.now }
+{
+    if !status_is_clean(m.status, block, store) {
+        return false;
+    }
+    are_clean(m.table, m.fields, block, store)
+}
+
 // Whether what a map says is clean.
+#[tactic(auto, using(maps::proofs::GoodLaws::handed_on), unfolding(crate::specs::Calls::cleaning))]
 pub fn clean<'a>(m: HeaderMap, block: &'a [u8], store: &'a [u8]) -> Result<bool, Refusal>
     ensures { result ≡ cleaning m block.now store.now }
 {
-    let s = maps::check_done(m, block, store);
-    match s {
-        Ok(()) => {
-            let status = m.status;
-            if status_is_clean(status, block, store) {
-                let t = m.table;
-                let n = m.fields;
-                if are_clean(t, n, block, store) {
-                    return Ok(true);
-                }
-            }
-            Ok(false)
-        }
-        Err(x) => Err(x),
-    }
+    maps::check_done(m, block, store)?;
+    Ok(is_clean(m, block, store))
 }
 
 // Whether a block is tidy for its flags and limit: one pass over its lines, with nothing lent. Quirks make no difference.
@@ -76,9 +68,5 @@ pub fn tidy(octets: &[u8], status: bool, quirks: bool, limit: usize) -> Result<b
     if limit < octets.len() {
         return Ok(false);
     }
-    if scan::is_scanned(octets, status) {
-        Ok(true)
-    } else {
-        Ok(false)
-    }
+    Ok(scan::is_scanned(octets, status))
 }

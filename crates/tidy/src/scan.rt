@@ -14,10 +14,7 @@ fn has_two(octets: &[u8], at: usize, x: u8, y: u8) -> bool
     if octets.len() - at < 2 {
         return false;
     }
-    if octets[at] == x {
-        return octets[at + 1] == y;
-    }
-    false
+    octets[at] == x && octets[at + 1] == y
 }
 
 // Past the neat text before the first x, and x and y behind it.
@@ -54,11 +51,8 @@ fn past_pair(octets: &[u8], at: usize) -> Option<usize>
     requires { at ≤ length octets.now }
     ensures { result ≡ past_pair octets.now at }
 {
-    let key = past_filled(octets, at, 58, 32);
-    match key {
-        Some(value) => past_text(octets, value, 13, 10),
-        None => None,
-    }
+    let value = past_filled(octets, at, 58, 32)?;
+    past_text(octets, value, 13, 10)
 }
 
 // Whether CR LF stands at at, and nothing behind it.
@@ -77,20 +71,13 @@ fn scan_pairs(octets: &[u8], from: usize) -> bool
     ensures { result ≡ scan_pairs 256 (drop from octets.now) }
 {
     let mut at = from;
-    let mut left: usize = 256;
-    while 0 < left {
+    for passed in 0..256usize {
         if ends_at(octets, at) {
             return true;
         }
-        let pair = past_pair(octets, at);
-        match pair {
-            Some(next) => {
-                at = next;
-                left -= 1;
-            }
-            None => {
-                return false;
-            }
+        match past_pair(octets, at) {
+            Some(next) => at = next,
+            None => return false,
         }
     }
     ends_at(octets, at)

@@ -50,7 +50,7 @@ fn is_clean_key(key: &[u8]) -> bool
 }
 
 pub fn is_clean_pair<'a>(key: &'a [u8], value: &'a [u8]) -> bool
-    ensures { result ≡ clean_pair (record { key = key.entry.now; value = value.now }) }
+    ensures { result ≡ clean_pair (record { key = key.now; value = value.now }) }
 {
     if is_clean_key(key) {
         return is_neat(value);

@@ -1,7 +1,6 @@
 -- `tidy::tidy` meets its contract. Assumes nothing.
 use Rattle.tidy.proofs.ScanLaws.{tidy_refused, tidy_long, tidy_by}
-use mathlib.Core.Path.{sym, ◌∙◌}
-use mathlib.Core.Bool.{true, false}
+use mathlib.Core.Path.{sym}
 use Rattle.tidy.proofs.tidy.Goals as goal
 
 pub returns-then-limit-gt-LARGEST : goal.returns-then-limit-gt-LARGEST
@@ -10,8 +9,5 @@ returns-then-limit-gt-LARGEST c = let a = c.args in tidy_refused a.octets.now a.
 pub returns-then-limit-octets : goal.returns-then-limit-octets
 returns-then-limit-octets c = let a = c.args in tidy_long a.octets.now a.status a.quirks a.limit c.if-limit-gt-LARGEST.false c.if-limit-octets.true
 
-pub returns-then-is_scanned : goal.returns-then-is_scanned
-returns-then-is_scanned c = let a = c.args in tidy_by a.octets.now a.status a.quirks a.limit c.if-limit-gt-LARGEST.false c.if-limit-octets.false true (sym c.is_scanned.ensures ∙ c.if-is_scanned.true)
-
-pub returns-else-is_scanned : goal.returns-else-is_scanned
-returns-else-is_scanned c = let a = c.args in tidy_by a.octets.now a.status a.quirks a.limit c.if-limit-gt-LARGEST.false c.if-limit-octets.false false (sym c.is_scanned.ensures ∙ c.if-is_scanned.false)
+pub returns : goal.returns
+returns c = let a = c.args in tidy_by a.octets.now a.status a.quirks a.limit c.if-limit-gt-LARGEST.false c.if-limit-octets.false _ (sym c.is_scanned.ensures)

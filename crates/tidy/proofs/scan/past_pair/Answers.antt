@@ -5,10 +5,10 @@ use mathlib.Core.Path.{sym, ◌∙◌}
 use Rattle.tidy.proofs.scan.past_pair.Goals as goal
 
 pub past_text-requires : goal.past_text-requires
-past_text-requires c = filled_within 58 32 c.args.octets.now c.args.at (omega arith) _ (sym c.in-Some.is ∙ c.past_filled-key.ensures)
+past_text-requires c = filled_within 58 32 c.args.octets.now c.args.at (omega arith) _ (sym c.in_ok-value.was ∙ c.past_filled.ensures)
 
-pub returns-in-Some : goal.returns-in-Some
-returns-in-Some c = pair_past c.args.octets.now c.args.at _ (sym c.in-Some.is ∙ c.past_filled-key.ensures) _ c.past_text.ensures
+pub returns : goal.returns
+returns c = pair_past c.args.octets.now c.args.at _ (sym c.in_ok-value.was ∙ c.past_filled.ensures) _ c.past_text.ensures
 
-pub returns-in-None : goal.returns-in-None
-returns-in-None c = pair_not_key c.args.octets.now c.args.at (sym c.in-None.is ∙ c.past_filled-key.ensures)
+pub returns-in_err-value : goal.returns-in_err-value
+returns-in_err-value c = c.from_residual.ensures ∙ pair_not_key c.args.octets.now c.args.at (sym c.in_err-value.was ∙ c.past_filled.ensures)
