@@ -16,15 +16,11 @@ fn fields_length<'a>(t: &[u32], n: usize, block: &'a [u8], store: &'a [u8]) -> u
     ensures { (result ≡ length (pair_lines (map (pair_at block.now store.now) (fields_from t.now 0 n)))) × (result ≤ 2199023257000) }
 {
     let mut sum = 0;
-    let mut i = 0;
-    while i < n {
+    for i in 0..n {
         let f = tables::field_at(t, i);
-        let kp = f.key;
-        let vp = f.value;
-        let key = maps::part(block, store, kp);
-        let value = maps::part(block, store, vp);
+        let key = maps::part(block, store, f.key);
+        let value = maps::part(block, store, f.value);
         sum += writes::pair_length(key, value);
-        i += 1;
     }
     sum
 }
@@ -41,15 +37,11 @@ fn put_fields<'a>(
     ensures { Put out.old out.new at result (pair_lines (map (pair_at block.now store.now) (fields_from t.now 0 n))) }
 {
     let mut k = at;
-    let mut i = 0;
-    while i < n {
+    for i in 0..n {
         let f = tables::field_at(t, i);
-        let kp = f.key;
-        let vp = f.value;
-        let key = maps::part(block, store, kp);
-        let value = maps::part(block, store, vp);
+        let key = maps::part(block, store, f.key);
+        let value = maps::part(block, store, f.value);
         k = writes::put_pair(out, k, key, value);
-        i += 1;
     }
     k
 }
@@ -66,17 +58,14 @@ fn give_map<'a>(
     ensures { IsWritten (giving out.old (rebuilt (saying (map_in t.now h) block.now store.now))) result out.new }
 {
     let n = h.fields;
-    let status = h.status;
-    let a = writes::status_length(status, block, store);
-    let b = fields_length(t, n, block, store);
-    let size = a + b + 2;
-    if out.len() < size {
+    let line = writes::status_length(h.status, block, store);
+    let lines = fields_length(t, n, block, store);
+    if out.len() < line + lines + 2 {
         return Err(Refusal::ShortOutput);
     }
-    let i = writes::put_status(out, status, block, store);
+    let i = writes::put_status(out, h.status, block, store);
     let j = put_fields(out, i, t, n, block, store);
-    let k = writes::put_two(out, j, 13, 10);
-    Ok(k)
+    Ok(writes::put_two(out, j, 13, 10))
 }
 
 // Status, fields and the blank line, whatever the map was read from.
@@ -90,11 +79,8 @@ pub fn rebuild<'a>(
     requires { length t.now ≡ 1024 }
     ensures { IsWritten (rebuilding (map_in t.now h) block.now store.now out.old) result out.new }
 {
-    let s = lent::check_done(h, t, block, store);
-    match s {
-        Ok(()) => give_map(out, h, t, block, store),
-        Err(x) => Err(x),
-    }
+    lent::check_done(h, t, block, store)?;
+    give_map(out, h, t, block, store)
 }
 
 // The block as it was read, or the map rebuilt. An unedited map costs its checks and one copy of the block.
@@ -108,15 +94,10 @@ pub fn write<'a>(
     requires { length t.now ≡ 1024 }
     ensures { IsWritten (writing (map_in t.now h) block.now store.now out.old) result out.new }
 {
-    let s = lent::check_done(h, t, block, store);
-    match s {
-        Ok(()) => {
-            let count = h.count;
-            if writes::is_untouched(h.edited, count) {
-                return writes::give(out, &block[0..count]);
-            }
-            give_map(out, h, t, block, store)
-        }
-        Err(x) => Err(x),
+    lent::check_done(h, t, block, store)?;
+    if writes::is_untouched(h.edited, h.count) {
+        writes::give(out, &block[0..h.count])
+    } else {
+        give_map(out, h, t, block, store)
     }
 }

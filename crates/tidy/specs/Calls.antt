@@ -1,6 +1,6 @@
 -- What the clean test and the tidy test answer. Assumes nothing.
 use Rattle.leaves.specs.declared.refusals.Refusal.{Refusal}
-use Rattle.std.specs.Prelude.{Bool, true, false, List, ℕ, leb, Err, Ok, Result}
+use Rattle.std.specs.Prelude.{Bool, List, ℕ, leb, Err, Ok, Result}
 use Rattle.leaves.specs.Choice.{when◌then◌else◌}
 use Rattle.leaves.specs.Refusals.{refusal}
 use Rattle.maps.specs.Good.{checked_done, unless}

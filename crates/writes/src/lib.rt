@@ -35,8 +35,7 @@ pub fn give(out: &mut [u8], text: &[u8]) -> Result<usize, Refusal>
     if out.len() < text.len() {
         return Err(Refusal::ShortOutput);
     }
-    let k = put(out, 0, text);
-    Ok(k)
+    Ok(put(out, 0, text))
 }
 
 // Key, colon, space (all three only if the key is not empty), value, CR LF.
@@ -70,15 +69,11 @@ fn fields_length<'a>(t: [Field; 256], n: usize, block: &'a [u8], store: &'a [u8]
     ensures { (result ≡ length (pair_lines (map (pair_at block.now store.now) (take n t)))) × (result ≤ 2199023257000) }
 {
     let mut sum = 0;
-    let mut i = 0;
-    while i < n {
+    for i in 0..n {
         let f = t[i];
-        let kp = f.key;
-        let vp = f.value;
-        let key = maps::part(block, store, kp);
-        let value = maps::part(block, store, vp);
+        let key = maps::part(block, store, f.key);
+        let value = maps::part(block, store, f.value);
         sum += pair_length(key, value);
-        i += 1;
     }
     sum
 }
@@ -95,15 +90,11 @@ fn put_fields<'a>(
     ensures { Put out.old out.new at result (pair_lines (map (pair_at block.now store.now) (take n t))) }
 {
     let mut k = at;
-    let mut i = 0;
-    while i < n {
+    for i in 0..n {
         let f = t[i];
-        let kp = f.key;
-        let vp = f.value;
-        let key = maps::part(block, store, kp);
-        let value = maps::part(block, store, vp);
+        let key = maps::part(block, store, f.key);
+        let value = maps::part(block, store, f.value);
         k = put_pair(out, k, key, value);
-        i += 1;
     }
     k
 }
@@ -151,32 +142,23 @@ pub fn rebuild<'a>(
 ) -> Result<usize, Refusal>
     ensures { IsWritten (rebuilding m block.now store.now out.old) result out.new }
 {
-    let s = maps::check_done(m, block, store);
-    match s {
-        Ok(()) => {
-            let t = m.table;
-            let n = m.fields;
-            let status = m.status;
-            let a = status_length(status, block, store);
-            let b = fields_length(t, n, block, store);
-            let size = a + b + 2;
-            if out.len() < size {
-                return Err(Refusal::ShortOutput);
-            }
-            let i = put_status(out, status, block, store);
-            let j = put_fields(out, i, t, n, block, store);
-            let k = put_two(out, j, 13, 10);
-            Ok(k)
-        }
-        Err(x) => Err(x),
+    maps::check_done(m, block, store)?;
+    let n = m.fields;
+    let line = status_length(m.status, block, store);
+    let lines = fields_length(m.table, n, block, store);
+    if out.len() < line + lines + 2 {
+        return Err(Refusal::ShortOutput);
     }
+    let i = put_status(out, m.status, block, store);
+    let j = put_fields(out, i, m.table, n, block, store);
+    Ok(put_two(out, j, 13, 10))
 }
 
 // Unedited and not empty.
 pub fn is_untouched(edited: bool, count: usize) -> bool
     ensures { result ≡ untouched edited count }
 {
-    if edited { false } else { 0 < count }
+    !edited && 0 < count
 }
 
 // The block as it was read, or the map rebuilt.
@@ -188,15 +170,9 @@ pub fn write<'a>(
 ) -> Result<usize, Refusal>
     ensures { IsWritten (writing m block.now store.now out.old) result out.new }
 {
-    let s = maps::check_done(m, block, store);
-    match s {
-        Ok(()) => {
-            let count = m.count;
-            if is_untouched(m.edited, count) {
-                return give(out, &block[0..count]);
-            }
-            rebuild(m, block, store, out)
-        }
-        Err(x) => Err(x),
+    maps::check_done(m, block, store)?;
+    if is_untouched(m.edited, m.count) {
+        return give(out, &block[0..m.count]);
     }
+    rebuild(m, block, store, out)
 }

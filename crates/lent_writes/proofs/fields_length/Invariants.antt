@@ -9,7 +9,4 @@ use lib.ListN.{length}
 use Rattle.lent_writes.proofs.fields_length.Given as goal
 
 abbrev pub invariant-loop-i : goal.invariant-loop-i
-invariant-loop-i l = (l.i ≤ l.n) × (l.sum ≤ l.i * 8589934594) × (l.sum + length (pair_lines (map (pair_at l.block l.store) (fields_from l.t l.i (l.n - l.i)))) ≡ length (pair_lines (map (pair_at l.block l.store) (fields_from l.t 0 l.n))))
-
-abbrev pub decreases-loop-i : goal.decreases-loop-i
-decreases-loop-i l = l.n - l.i
+invariant-loop-i l = (l.sum ≤ l.i * 8589934594) × (l.sum + length (pair_lines (map (pair_at l.block l.store) (fields_from l.t l.i (l.n - l.i)))) ≡ length (pair_lines (map (pair_at l.block l.store) (fields_from l.t 0 l.n))))

@@ -4,11 +4,8 @@ use Rattle.writes.specs.Written.{pair_lines}
 use Rattle.writes.proofs.PutLaws.{Writing}
 use Rattle.lent.specs.Table.{fields_from}
 use mathlib.Core.List.{map}
-use Prim.Native.Nat.{◌-◌, ◌≤◌}
+use Prim.Native.Nat.{◌-◌}
 use Rattle.lent_writes.proofs.put_fields.Given as goal
 
 abbrev pub invariant-loop-i : goal.invariant-loop-i
-invariant-loop-i l = (l.i ≤ l.n) × Writing l.initial.out l.at (pair_lines (map (pair_at l.block l.store) (fields_from l.t 0 l.n))) (pair_lines (map (pair_at l.block l.store) (fields_from l.t l.i (l.n - l.i)))) l.out l.k
-
-abbrev pub decreases-loop-i : goal.decreases-loop-i
-decreases-loop-i l = l.n - l.i
+invariant-loop-i l = Writing l.initial.out l.at (pair_lines (map (pair_at l.block l.store) (fields_from l.t 0 l.n))) (pair_lines (map (pair_at l.block l.store) (fields_from l.t l.i (l.n - l.i)))) l.out l.k

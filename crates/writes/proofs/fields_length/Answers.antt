@@ -1,10 +1,9 @@
 -- `writes::fields_length` meets its contract. Assumes nothing.
 use Rattle.lookups.proofs.SeekLaws.{live_cons, live_end}
 use Rattle.writes.proofs.FormLaws.{lines_length, lines_none}
-use borrow.Author.Rules.{rules}
 use native.Mathlib.Omega.{arith}
 use mathlib.Core.Path.{ap}
-use Prim.Native.Nat.{◌≤◌, ◌<◌}
+use Prim.Native.Nat.{◌≤◌}
 use lib.ListN.{length}
 use Rattle.writes.proofs.fields_length.Goals as goal
 
@@ -12,12 +11,12 @@ pub loop-i-preserved : goal.loop-i-preserved
 loop-i-preserved c =
     let s = c.args in
     let w : s.n ≤ length s.t = omega arith in
-    let h : c.loop-i.i < s.n = omega arith in
+    let h = c.loop-i-test.true in
     let e = lines_length s.block.now s.store.now _ _ _ (live_cons s.t s.n c.loop-i.i w h) _ _ c.part-key.ensures.is c.part-value.ensures.is in
-    (search rules, omega (arith, c.pair_length-sum.ensures.1), omega (arith, c.pair_length-sum.ensures.0, c.loop-i.invariant.2, e))
+    (omega (arith, c.pair_length-sum.ensures.1, c.loop-i.invariant.0), omega (arith, c.pair_length-sum.ensures.0, c.loop-i.invariant.1, e))
 
 pub returns : goal.returns
 returns c =
     let s = c.args in
-    let h : s.n ≤ c.loop-i.i = omega arith in
-    (omega (arith, c.loop-i.invariant.2, ap length (lines_none s.block.now s.store.now _ (live_end s.t s.n c.loop-i.i h))), omega (arith, c.loop-i.invariant.1))
+    let h = c.loop-i-test.false in
+    (omega (arith, c.loop-i.invariant.1, ap length (lines_none s.block.now s.store.now _ (live_end s.t s.n c.loop-i.i h))), omega (arith, c.loop-i.invariant.0))

@@ -8,4 +8,4 @@ returns-then-out-text c = let s = c.args in give_short s.out.now s.text.now c.if
 pub returns : goal.returns
 returns c =
     let s = c.args in
-    give_all s.out.now s.text.now c.if-out-text.false _ _ c.put-k.ensures
+    give_all s.out.now s.text.now c.if-out-text.false _ _ c.put.ensures
