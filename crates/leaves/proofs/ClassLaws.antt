@@ -6,7 +6,7 @@ use lib.Dec.{eqb}
 use lib.Bits.{bit_and}
 use Rattle.leaves.specs.Class.{token, text, blank, digit, class_of, bit}
 
-abbrev has_bit : ℕ → ℕ → Bool
+abbrev pub has_bit : ℕ → ℕ → Bool
 has_bit x n = not (eqb (bit_and x n) 0)
 
 abbrev Tells : ℕ → Bool → Bool → Bool → Bool → Type 0
@@ -30,6 +30,19 @@ bits false false true false = (refl, refl, refl, refl)
 bits false false false true = (refl, refl, refl, refl)
 bits false false false false = (refl, refl, refl, refl)
 
-pub told : (x k : ℕ) → x ≡ class_of k → (has_bit x 1 ≡ token k) × (has_bit x 2 ≡ text k) × (has_bit x 4 ≡ blank k) × (has_bit x 8 ≡ digit k)
+told : (k : ℕ) → Tells (class_of k) (token k) (text k) (blank k) (digit k)
 unfolding class_of
-told x k e = rw e (bits (token k) (text k) (blank k) (digit k))
+told k = bits (token k) (text k) (blank k) (digit k)
+
+-- so the class of an octet is carried to each look-up
+pub token_told : (k : ℕ) → has_bit (class_of k) 1 ≡ token k
+token_told k = (told k).0
+
+pub text_told : (k : ℕ) → has_bit (class_of k) 2 ≡ text k
+text_told k = (told k).1
+
+pub blank_told : (k : ℕ) → has_bit (class_of k) 4 ≡ blank k
+blank_told k = (told k).2
+
+pub digit_told : (k : ℕ) → has_bit (class_of k) 8 ≡ digit k
+digit_told k = (told k).3

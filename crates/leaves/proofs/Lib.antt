@@ -1,4 +1,6 @@
 pub mod ChoiceLaws
+pub mod Words
+pub mod EqLaws
 pub mod Table
 pub mod ClassLaws
 pub mod TrimLaws

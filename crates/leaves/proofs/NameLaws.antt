@@ -46,13 +46,6 @@ apart [] (y ∷ ys) h = refl
 apart (x ∷ xs) [] h = refl
 apart (x ∷ xs) (y ∷ ys) h = and_false (eqb x y) _ (apart xs ys (λ e. h (ap suc e)))
 
-pub same_apart : (a b : List ℕ) → (length a ≡ length b → ⊥) → same_name a b ≡ false
-unfolding same_list
-same_apart [] [] h = absurd (h refl)
-same_apart [] (y ∷ ys) h = refl
-same_apart (x ∷ xs) [] h = refl
-same_apart (x ∷ xs) (y ∷ ys) h = and_false (eqb (lowered x) (lowered y)) _ (same_apart xs ys (λ e. h (ap suc e)))
-
 module _ (a b : List ℕ) (i : ℕ) where
   pub same_more : i < length a → i < length b → lowered (get_or a i 0) ≡ lowered (get_or b i 0)
       → same_name (drop i a) (drop i b) ≡ same_name (drop (i + 1) a) (drop (i + 1) b)
@@ -66,25 +59,3 @@ module _ (a b : List ℕ) (i : ℕ) where
   pub same_end : length a ≤ i → length b ≤ i → same_name (drop i a) (drop i b) ≡ true
   unfolding same_list
   same_end h k = rw (drop_of_length-le a h, drop_of_length-le b k)
-
--- a name against a list that is read from its front
-module _ (a : List ℕ) (n y : ℕ) (ys : List ℕ) where
-  pub name_short : length a ≤ n → same_name (drop n a) (y ∷ ys) ≡ false
-  unfolding same_list
-  name_short h = rw (drop_of_length-le a h)
-
-  pub name_more : n < length a → lowered (get_or a n 0) ≡ lowered y → same_name (drop n a) (y ∷ ys) ≡ same_name (drop (n + 1) a) ys
-  unfolding same_list
-  name_more h e = rw (add-one, drop-cons a n 0, eq-eqb _ _ e)
-
-  pub name_stop : n < length a → (lowered (get_or a n 0) ≡ lowered y → ⊥) → same_name (drop n a) (y ∷ ys) ≡ false
-  unfolding same_list
-  name_stop h e = rw (drop-cons a n 0, ne_eqb _ _ e)
-
-pub name_left : (a : List ℕ) (n : ℕ) → n < length a → same_name (drop n a) [] ≡ false
-unfolding same_list
-name_left a n h = rw (drop-cons a n 0)
-
-pub name_end : (a : List ℕ) (n : ℕ) → length a ≤ n → same_name (drop n a) [] ≡ true
-unfolding same_list
-name_end a n h = rw (drop_of_length-le a h)

@@ -1,12 +1,14 @@
 -- Laws of the ends of a line's blank-free part. Assumes nothing.
 use mathlib.Core.Path.{◌≡◌, refl, sym, ap, ◌∙◌}
 use mathlib.Core.Bool.{Bool, true, false}
-use mathlib.Core.List.{List, [], ◌∷◌, ◌++◌}
-use Prim.Native.Nat.{ℕ, zero, suc, min, ◌+◌, ◌-◌, ◌≤◌, ◌<◌}
+use mathlib.Core.List.{List, [], ◌∷◌, ◌++◌, reverse}
+use Prim.Native.Nat.{ℕ, zero, suc, min, ◌-◌, ◌≤◌, ◌<◌}
 use native.Mathlib.Omega.{arith}
-use native.Mathlib.Nat.{add-zero}
-use lib.ListN.{length, get_or, take, drop, drop_of_length-le}
+use lib.ListN.{length, get_or, take, drop}
 use lib.Seq.{drop-cons, take-suc, length-take-le}
+use Rattle.std.proofs.lemmas.List.{reverse-append, reverse-reverse, length-reverse}
+use Rattle.std.specs.List.{prefix_len, suffix_len}
+use Rattle.std.proofs.lemmas.List.Sums.{prefix_len-le-length}
 use Rattle.leaves.specs.Class.{blank}
 use Rattle.leaves.specs.Trim.{leading, trim_end, trim_start, end_after, Trimming}
 
@@ -18,10 +20,6 @@ leading_more s i h e = rw (drop-cons s i 0, e)
 pub leading_stop : (s : List ℕ) (i : ℕ) → i < length s → blank (get_or s i 0) ≡ false → leading (drop i s) ≡ 0
 unfolding leading
 leading_stop s i h e = rw (drop-cons s i 0, e)
-
-pub leading_end : (s : List ℕ) (i : ℕ) → length s ≤ i → leading s ≡ i + leading (drop i s) → i ≡ leading s
-unfolding leading
-leading_end s i h e = sym (e ∙ rw (drop_of_length-le s h) (add-zero i))
 
 -- a blank at the end does not count
 end_blank : (s : List ℕ) (x : ℕ) → blank x ≡ true → trim_end (s ++ (x ∷ [])) ≡ trim_end s
@@ -58,11 +56,21 @@ module _ (s : List ℕ) (e : ℕ) (some : 0 < e) (fits : e ≤ length s) where
       let t : trim_end (take e s) ≡ suc (length (take (e - 1) s)) = ap trim_end taken ∙ end_full (take (e - 1) s) (get_or s (e - 1) 0) b in
       omega arith
 
-pub end_none : (s : List ℕ) (e : ℕ) → e ≤ 0 → trim_end s ≡ trim_end (take e s) → e ≡ trim_end s
+-- the search from the back passes the blanks there
+end_of_reversed : (s : List ℕ) → trim_end (reverse s) ≡ length s - prefix_len blank s
 unfolding trim_end
-end_none s e h q =
-    let z : e ≡ 0 = omega arith in
-    z ∙ sym (q ∙ ap (λ (n : ℕ). trim_end (take n s)) z)
+end_of_reversed [] = refl
+end_of_reversed (x ∷ xs) = choose (blank x) refl (end_of_reversed xs)
+  where
+    choose : (b : Bool) → blank x ≡ b → trim_end (reverse xs) ≡ length xs - prefix_len blank xs → trim_end (reverse (x ∷ xs)) ≡ length (x ∷ xs) - prefix_len blank (x ∷ xs)
+    choose true e h = rw (reverse-append (x ∷ []) xs, end_blank (reverse xs) x e, h, e) (omega arith)
+    choose false e h = rw (reverse-append (x ∷ []) xs, end_full (reverse xs) x e, length-reverse xs, e) (omega arith)
+
+pub suffix_within : (s : List ℕ) → suffix_len blank s ≤ length s
+suffix_within s = omega (arith, prefix_len-le-length blank (reverse s), length-reverse s)
+
+pub end_from_back : (s : List ℕ) → trim_end s ≡ length s - suffix_len blank s
+end_from_back s = ap trim_end (sym (reverse-reverse s)) ∙ end_of_reversed (reverse s) ∙ ap (λ (n : ℕ). n - prefix_len blank (reverse s)) (length-reverse s)
 
 after_le : (b : Bool) (n m : ℕ) → n ≤ m → end_after b n ≤ suc m
 after_le true zero m h = omega arith

@@ -1,5 +1,4 @@
--- The answers that are no refusals, each with a number of its own apart from the table's: 1 to 31 belong to the refusals of documents 01 and
--- 02, and these begin at 64. Assumes nothing.
+-- The answers that are no refusals, each with a number of its own: 1 to 31 are kept for the refusals, and these begin at 64. Assumes nothing.
 use Rattle.std.specs.Prelude.{ℕ, ◌+◌}
 
 -- a call that has done what it was asked, or written

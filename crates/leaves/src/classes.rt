@@ -1,6 +1,6 @@
 // The class of each octet: one table, copied once by a pass that looks octets up in it, and compared octets for hot code.
-ghost use Rattle.std.specs.Prelude.{◌≡◌};
-ghost use Rattle.leaves.specs.Class.{token, text, blank, digit, Classified};
+ghost use Rattle.std.specs.Prelude.{◌≡◌, not, eqb, bit_and};
+ghost use Rattle.leaves.specs.Class.{token, text, blank, digit, class_of, Classified};
 
 // Bits of an octet's class.
 const TOKEN: u8 = 1;
@@ -18,32 +18,44 @@ pub fn table() -> [u8; 256]
     CLASSES
 }
 
+// Whether the class of an octet has a bit.
+fn has_bit<const BIT: u8>(classes: &[u8; 256], x: u8) -> bool
+    requires { Classified classes.now }
+    ensures { result ≡ not (eqb (bit_and (class_of x) BIT) 0) }
+{
+    classes[x as usize] & BIT != 0
+}
+
+#[tactic(auto, using(crate::proofs::ClassLaws::token_told))]
 pub fn is_token(classes: &[u8; 256], x: u8) -> bool
     requires { Classified classes.now }
     ensures { result ≡ token x }
 {
-    classes[x as usize] & TOKEN != 0
+    has_bit::<TOKEN>(classes, x)
 }
 
+#[tactic(auto, using(crate::proofs::ClassLaws::text_told))]
 pub fn is_text(classes: &[u8; 256], x: u8) -> bool
     requires { Classified classes.now }
     ensures { result ≡ text x }
 {
-    classes[x as usize] & TEXT != 0
+    has_bit::<TEXT>(classes, x)
 }
 
+#[tactic(auto, using(crate::proofs::ClassLaws::blank_told))]
 pub fn is_blank_class(classes: &[u8; 256], x: u8) -> bool
     requires { Classified classes.now }
     ensures { result ≡ blank x }
 {
-    classes[x as usize] & BLANK != 0
+    has_bit::<BLANK>(classes, x)
 }
 
+#[tactic(auto, using(crate::proofs::ClassLaws::digit_told))]
 pub fn is_digit_class(classes: &[u8; 256], x: u8) -> bool
     requires { Classified classes.now }
     ensures { result ≡ digit x }
 {
-    classes[x as usize] & DIGIT != 0
+    has_bit::<DIGIT>(classes, x)
 }
 
 // By comparing, for hot code.
@@ -51,28 +63,14 @@ pub fn is_digit_class(classes: &[u8; 256], x: u8) -> bool
 pub fn is_blank(x: u8) -> bool
     ensures { result ≡ blank x }
 {
-    if x == 32 {
-        return true;
-    }
-    if x == 13 {
-        return true;
-    }
-    if x == 10 {
-        return true;
-    }
-    if x == 9 {
-        return true;
-    }
-    x == 12
+    x == b' ' || x == b'\r' || x == b'\n' || x == b'\t' || x == 12
 }
 
+#[tactic(auto, unfolding(crate::specs::Class::digit))]
 pub fn is_digit(x: u8) -> bool
     ensures { result ≡ digit x }
 {
-    if x < 48 {
-        return false;
-    }
-    x <= 57
+    b'0' <= x && x <= b'9'
 }
 
 // The class of octet 0, of octet 1, and so on.

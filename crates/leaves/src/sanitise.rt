@@ -7,23 +7,19 @@ ghost use Rattle.leaves.specs.Sanitise.{dropped, spaced, scrubbed, sanitised};
 use crate::{names, trims};
 
 // Whether sanitising drops an octet.
+#[tactic(auto, unfolding(crate::specs::Sanitise::dropped))]
 fn is_dropped(x: u8, key: bool) -> bool
     ensures { result ≡ dropped key x }
 {
-    if x == 13 {
-        return true;
-    }
-    if key {
-        return x == 58;
-    }
-    false
+    x == b'\r' || (key && x == b':')
 }
 
 // A space for LF.
+#[tactic(auto, unfolding(crate::specs::Sanitise::spaced))]
 fn no_break(x: u8) -> u8
     ensures { result ≡ spaced x }
 {
-    if x == 10 { 32 } else { x }
+    if x == b'\n' { b' ' } else { x }
 }
 
 // Writes what sanitising leaves of a trimmed text at the front of a slice.
@@ -32,6 +28,8 @@ fn scrub_into(out: &mut [u8], part: &[u8], key: bool) -> usize
     ensures { (result ≡ length (scrubbed key part.now)) × (out.new ≡ pasted out.old 0 (scrubbed key part.now)) }
 {
     let mut n = 0;
+
+    // Counted by hand, with i raised in each arm: the three forms of `for` that were measured took half as long again.
     let mut i = 0;
     while i < part.len() {
         let x = part[i];
@@ -60,14 +58,9 @@ fn scrubbed_length(part: &[u8], key: bool) -> usize
     ensures { result ≡ length (scrubbed key part.now) }
 {
     let mut n = 0;
-    let mut i = 0;
-    while i < part.len() {
-        let x = part[i];
-        if is_dropped(x, key) {
-            i += 1;
-        } else {
+    for x in part {
+        if !is_dropped(*x, key) {
             n += 1;
-            i += 1;
         }
     }
     n
@@ -85,30 +78,9 @@ pub fn sanitised_length(text: &[u8], key: bool) -> usize
 fn matches_scrubbed(name: &[u8], part: &[u8]) -> bool
     ensures { result ≡ same_name name.now (scrubbed true part.now) }
 {
-    let mut n = 0;
-    let mut i = 0;
-    while i < part.len() {
-        let x = part[i];
-        if is_dropped(x, true) {
-            i += 1;
-        } else {
-            if n == name.len() {
-                return false;
-            }
-            let y = no_break(x);
-            let a = names::lower(name[n]);
-            let b = names::lower(y);
-            if a != b {
-                return false;
-            }
-            n += 1;
-            i += 1;
-        }
-    }
-    if n < name.len() {
-        return false;
-    }
-    true
+    let kept = part.iter().filter(|x| !is_dropped(**x, true));
+    let wanted = kept.map(|x| names::lower(no_break(*x)));
+    name.iter().map(|x| names::lower(*x)).eq(wanted)
 }
 
 // Whether a name is, but for ASCII case, the sanitised form of a raw key.

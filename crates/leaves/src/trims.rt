@@ -1,11 +1,13 @@
 // Trimming: the blank-free part of a line.
 ghost use Rattle.std.specs.Prelude.{◌≡◌};
-ghost use Rattle.leaves.specs.Trim.{leading, trim_end, Trimming, Trimmed};
+ghost use Rattle.std.specs.List.{prefix_len, suffix_len};
+ghost use Rattle.leaves.specs.Class.{blank};
+ghost use Rattle.leaves.specs.Trim.{trim_end, Trimming, Trimmed};
 
 use crate::classes;
 
 // A part of a slice: from start to before end.
-#[derive(Clone, Copy)]
+#[derive(Clone, Copy, Debug, PartialEq, Eq)]
 pub struct Span {
     pub start: usize,
     pub end: usize,
@@ -13,31 +15,27 @@ pub struct Span {
 
 // How many blanks the line begins with.
 fn count_leading(line: &[u8]) -> usize
-    ensures { result ≡ leading line.now }
+    ensures { result ≡ prefix_len blank line.now }
 {
-    let mut i = 0;
-    while i < line.len() {
-        if !classes::is_blank(line[i]) {
-            return i;
-        }
-        i += 1;
-    }
-    i
+    line.iter().take_while(|x| classes::is_blank(**x)).count()
+}
+
+// How many blanks the line ends with.
+fn count_trailing(line: &[u8]) -> usize
+    ensures { result ≡ suffix_len blank line.now }
+{
+    line.iter()
+        .rev()
+        .take_while(|x| classes::is_blank(**x))
+        .count()
 }
 
 // The place after the last octet that is no blank, or 0.
+#[tactic(auto, using(crate::proofs::TrimLaws::end_from_back, crate::proofs::TrimLaws::suffix_within))]
 fn find_end(line: &[u8]) -> usize
     ensures { result ≡ trim_end line.now }
 {
-    let mut e = line.len();
-    while e > 0 {
-        let last = e - 1;
-        if !classes::is_blank(line[last]) {
-            return e;
-        }
-        e = last;
-    }
-    e
+    line.len() - count_trailing(line)
 }
 
 // Where the blank-free part lies; the empty part at the line's start where all is blank.
@@ -57,8 +55,6 @@ pub fn trim_bounds(line: &[u8]) -> Span
 pub fn trim(line: &[u8]) -> &[u8]
     ensures { Trimmed line.now line.entry.ref_ptr result.now result.ref_ptr }
 {
-    let at = trim_bounds(line);
-    let start = at.start;
-    let end = at.end;
+    let Span { start, end } = trim_bounds(line);
     &line[start..end]
 }

@@ -9,7 +9,7 @@ use Rattle.leaves.specs.Refusals.{number as number_of}
 use Rattle.leaves.specs.Sanitise.{sanitised}
 use Rattle.leaves.specs.Trim.{Trimmed, Trimming}
 use Rattle.lines.specs.Line.{Takes, cr_before, tight}
-use Rattle.standard.specs.Names.{framed, name_of}
+use Rattle.standard.specs.Names.{name_of}
 use Rattle.standard.specs.Types.{type_code}
 use Rattle.library.specs.Says.{Says, first, second, third, fourth, fifth, sixth, seventh}
 
@@ -62,7 +62,7 @@ pub record Leaves : Type 0 where
   pub take_line : Says Rattle.lines.proofs.take_line.Reads.Learnt (λ κ a r e. Takes (seventh a) (cr_before (third a).now (sixth a) (fourth a)) ((fifth a) - (fourth a)) (fourth a) (drop (second a) (first a).now) (third a).now (third e).now r)
   -- standard
   -- names::name_of(header)
-  pub name_of_call : Says Rattle.standard.proofs.names.name_of.Reads.Learnt (λ κ a r e. r ≡ framed (name_of (first a)))
+  pub name_of_call : Says Rattle.standard.proofs.names.name_of.Reads.Learnt (λ κ a r e. r.now ≡ name_of (first a))
   -- names::is_named(text, header)
   pub is_named : Says Rattle.standard.proofs.names.is_named.Reads.Learnt (λ κ a r e. r ≡ same_name (first a).now (name_of (second a)))
   -- types::record_type(name)

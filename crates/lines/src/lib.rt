@@ -9,18 +9,16 @@ ghost use Rattle.lines.specs.Line.{ends_line, cr_before, Takes, cr_at, line_end,
 fn is_cr(x: u8) -> bool
     ensures { result ≡ eqb x 13 }
 {
-    x == 13
+    x == b'\r'
 }
 
 // Whether the line from start on, up to count, ends with CR.
+#[tactic(auto, unfolding(crate::specs::Line::cr_before))]
 fn cr_before(block: &[u8], start: usize, count: usize) -> bool
     requires { count ≤ length block.now }
     ensures { result ≡ cr_before block.now start count }
 {
-    if start < count {
-        return is_cr(block[count - 1]);
-    }
-    false
+    start < count && is_cr(block[count - 1])
 }
 
 // What an octet is worth in a search: left where it is the wanted one, else nothing.
@@ -33,7 +31,7 @@ fn worth(x: u8, wanted: u8, left: u8) -> u8
 fn larger(a: u8, b: u8) -> u8
     ensures { result ≡ max a b }
 {
-    if a < b { b } else { a }
+    a.max(b)
 }
 
 // How many of the 64 octets from at on stand before the first wanted one, 64 for none. The loop has 64 turns and no early end, so
@@ -44,11 +42,9 @@ fn before_in_64(s: &[u8], at: usize, wanted: u8) -> usize
 {
     let mut best: u8 = 0;
     let mut left: u8 = 64;
-    let mut j = 0;
-    while j < 64 {
+    for j in 0..64 {
         best = larger(best, worth(s[at + j], wanted, left));
         left -= 1;
-        j += 1;
     }
     64 - best as usize
 }
@@ -56,7 +52,7 @@ fn before_in_64(s: &[u8], at: usize, wanted: u8) -> usize
 fn or_equal(hit: bool, x: u8, wanted: u8) -> bool
     ensures { result ≡ (hit || eqb x wanted) }
 {
-    if hit { true } else { x == wanted }
+    hit || x == wanted
 }
 
 // Whether one of the 64 octets from at on is the wanted one: cheaper than its place, and compiled to vectors too.
@@ -65,10 +61,8 @@ fn any_in_64(s: &[u8], at: usize, wanted: u8) -> bool
     ensures { result ≡ has wanted (take 64 (drop at s.now)) }
 {
     let mut hit = false;
-    let mut j = 0;
-    while j < 64 {
+    for j in 0..64 {
         hit = or_equal(hit, s[at + j], wanted);
-        j += 1;
     }
     hit
 }
@@ -78,14 +72,12 @@ fn next_octet(s: &[u8], from: usize, wanted: u8) -> usize
     requires { from ≤ length s.now }
     ensures { result ≡ from + before wanted (drop from s.now) }
 {
-    let mut i = from;
-    while i < s.len() {
+    for i in from..s.len() {
         if s[i] == wanted {
             return i;
         }
-        i += 1;
     }
-    i
+    s.len()
 }
 
 // Passes over groups of 64 octets without the wanted one: to the first that has it, or to fewer than 64 octets.
@@ -155,10 +147,7 @@ fn cr_at(s: &[u8], cr: bool, j: usize) -> bool
     requires { j ≤ length s.now }
     ensures { result ≡ cr_at cr s.now j }
 {
-    if j == 0 {
-        return cr;
-    }
-    is_cr(s[j - 1])
+    if j == 0 { cr } else { is_cr(s[j - 1]) }
 }
 
 // The place of the octet that ends the line, or the length.
@@ -171,10 +160,7 @@ fn line_end(s: &[u8], cr: bool, quirks: bool) -> usize
         if s.len() <= j {
             return j;
         }
-        if quirks {
-            return j;
-        }
-        if cr_at(s, cr, j) {
+        if quirks || cr_at(s, cr, j) {
             return j;
         }
         i = j + 1;
@@ -188,10 +174,8 @@ fn sixteen(text: &[u8], at: usize) -> [u8; 16]
     ensures { result ≡ take 16 (drop at text.now) }
 {
     let mut group = [0u8; 16];
-    let mut j = 0;
-    while j < 16 {
+    for j in 0..16 {
         group[j] = text[at + j];
-        j += 1;
     }
     group
 }
@@ -201,10 +185,8 @@ fn put_sixteen(out: &mut [u8], at: usize, group: [u8; 16])
     requires { at + 16 ≤ length out.old }
     ensures { out.new ≡ pasted out.old at group }
 {
-    let mut j = 0;
-    while j < 16 {
+    for j in 0..16 {
         out[at + j] = group[j];
-        j += 1;
     }
 }
 
@@ -223,10 +205,8 @@ fn copy_short(out: &mut [u8], text: &[u8])
     requires { length text.now ≤ length out.old }
     ensures { out.new ≡ pasted out.old 0 text.now }
 {
-    let mut i = 0;
-    while i < text.len() {
+    for i in 0..text.len() {
         out[i] = text[i];
-        i += 1;
     }
 }
 
@@ -279,38 +259,21 @@ pub fn copy_in(out: &mut [u8], text: &[u8])
 
 // Whether c octets without a blank at either end, the octet at c, one space, octets without a blank at either end, CR and LF make
 // up the line: few comparisons, for the form that nearly every line has.
+#[tactic(auto, unfolding(crate::specs::Line::tight))]
 pub fn is_tight(line: &[u8], c: usize) -> bool
     ensures { result ≡ tight c line.now }
 {
     let n = line.len();
-    if c < 1 {
-        return false;
-    }
-    if n < 5 {
-        return false;
-    }
-    if n - 5 < c {
-        return false;
-    }
-    if line[n - 1] == 10 {
-        if line[n - 2] == 13 {
-            if line[n - 3] > 32 {
-                if line[c + 1] == 32 {
-                    if line[c + 2] > 32 {
-                        if line[c - 1] > 32 {
-                            return line[0] > 32;
-                        }
-                        return false;
-                    }
-                    return false;
-                }
-                return false;
-            }
-            return false;
-        }
-        return false;
-    }
-    false
+    c >= 1
+        && n >= 5
+        && n - 5 >= c
+        && line[n - 1] == b'\n'
+        && line[n - 2] == b'\r'
+        && line[n - 3] > b' '
+        && line[c + 1] == b' '
+        && line[c + 2] > b' '
+        && line[c - 1] > b' '
+        && line[0] > b' '
 }
 
 // Why taking stopped, with the number of octets taken: a line ended, the piece did, or the limit was met.

@@ -1,10 +1,8 @@
 -- The names of the fields that WARC 1.1 defines. Assumes nothing.
-use Rattle.std.specs.Prelude.{List, ℕ, length, replicate}
+use Rattle.std.specs.Prelude.{List, ℕ}
 use Rattle.leaves.specs.Octets.{octets}
-use Rattle.leaves.specs.Paste.{lay}
 use Rattle.standard.specs.declared.names.WarcHeader.{WarcHeader}
 use Rattle.standard.specs.declared.names.WarcHeader.TheVariants.{WarcType, WarcRecordId, WarcDate, ContentLength, ContentType, WarcConcurrentTo, WarcBlockDigest, WarcPayloadDigest, WarcIpAddress, WarcRefersTo, WarcRefersToTargetUri, WarcRefersToDate, WarcTargetUri, WarcTruncated, WarcWarcinfoId, WarcFilename, WarcProfile, WarcIdentifiedPayloadType, WarcSegmentOriginId, WarcSegmentNumber, WarcSegmentTotalLength}
-use Rattle.standard.specs.declared.names.Name.{Name}
 
 -- "the 21 `WarcHeader` names"
 abbrev pub name_of : WarcHeader → List ℕ
@@ -29,7 +27,3 @@ name_of WarcIdentifiedPayloadType = octets "WARC-Identified-Payload-Type"
 name_of WarcSegmentOriginId = octets "WARC-Segment-Origin-ID"
 name_of WarcSegmentNumber = octets "WARC-Segment-Number"
 name_of WarcSegmentTotalLength = octets "WARC-Segment-Total-Length"
-
--- a name in 28 octets, the longest name's length, with zeros behind it
-abbrev pub framed : List ℕ → Name
-framed s = record { octets = lay (replicate 28 0) s; length = length s }

@@ -7,6 +7,3 @@ use Rattle.lines.proofs.any_in_64.Given as goal
 
 abbrev pub invariant-loop-j : goal.invariant-loop-j
 invariant-loop-j l = (l.j ≤ 64) × (l.hit ≡ has l.wanted (take l.j (drop l.at l.s)))
-
-abbrev pub decreases-loop-j : goal.decreases-loop-j
-decreases-loop-j l = 64 - l.j

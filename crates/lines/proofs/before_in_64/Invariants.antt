@@ -6,6 +6,3 @@ use Rattle.lines.proofs.before_in_64.Given as goal
 
 abbrev pub invariant-loop-j : goal.invariant-loop-j
 invariant-loop-j l = Scanning l.wanted 64 (drop l.at l.s) l.best l.left l.j
-
-abbrev pub decreases-loop-j : goal.decreases-loop-j
-decreases-loop-j l = 64 - l.j

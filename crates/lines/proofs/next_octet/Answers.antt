@@ -1,7 +1,8 @@
 -- `lines::next_octet` meets its contract. Assumes nothing.
 use native.Mathlib.Omega.{arith}
 use native.Mathlib.Nat.{add-zero}
-use mathlib.Core.Path.{sym, ap, ◌∙◌}
+use mathlib.Core.Path.{◌≡◌, sym, ap, ◌∙◌}
+use lib.ListN.{length}
 use Prim.Native.Nat.{ℕ, ◌+◌}
 use borrow.Author.Tests.{ne_eqb}
 use Rattle.leaves.proofs.SearchLaws.{before_here, before_not, before_end, pass_more}
@@ -20,4 +21,5 @@ loop-i-preserved c =
 pub returns : goal.returns
 returns c =
     let s = c.args.s.now in
-    sym (c.loop-i.invariant.is ∙ ap (λ (n : ℕ). c.loop-i.i + n) (before_end c.args.wanted s c.loop-i.i c.loop-i-test.false) ∙ add-zero _)
+    let e : length s ≡ c.loop-i.i = omega arith in
+    e ∙ sym (c.loop-i.invariant.is ∙ ap (λ (n : ℕ). c.loop-i.i + n) (before_end c.args.wanted s c.loop-i.i c.loop-i-test.false) ∙ add-zero _)

@@ -6,6 +6,3 @@ use Rattle.lines.proofs.next_octet.Given as goal
 
 abbrev pub invariant-loop-i : goal.invariant-loop-i
 invariant-loop-i l = Passed l.wanted l.s l.from l.i
-
-abbrev pub decreases-loop-i : goal.decreases-loop-i
-decreases-loop-i l = length l.s - l.i

@@ -6,6 +6,3 @@ use Rattle.lines.proofs.sixteen.Given as goal
 
 abbrev pub invariant-loop-j : goal.invariant-loop-j
 invariant-loop-j l = Copying l.initial.group 0 (take 16 (drop l.at l.text)) l.group l.j
-
-abbrev pub decreases-loop-j : goal.decreases-loop-j
-decreases-loop-j l = 16 - l.j

@@ -1,12 +1,9 @@
 use mathlib.Core.Path.{◌≡◌}
-use Prim.Native.Nat.{◌-◌, ◌≤◌}
-use lib.ListN.{length, drop}
+use Prim.Native.Nat.{◌≤◌}
+use lib.ListN.{drop}
 use Rattle.leaves.specs.Number.{content_length}
 use Rattle.leaves.proofs.NumberLaws.{length_from}
 use Rattle.leaves.proofs.lengths.content_length.Given as goal
 
-abbrev pub invariant-loop-i : goal.invariant-loop-i
-invariant-loop-i l = (l.i ≤ length l.value) × (l.n ≤ 18446744073709551615) × (content_length l.value ≡ length_from l.n (drop l.i l.value))
-
-abbrev pub decreases-loop-i : goal.decreases-loop-i
-decreases-loop-i l = length l.value - l.i
+abbrev pub invariant-loop-x : goal.invariant-loop-x
+invariant-loop-x l = (l.n ≤ 18446744073709551615) × (content_length l.value ≡ length_from l.n (drop l.x-index l.value))

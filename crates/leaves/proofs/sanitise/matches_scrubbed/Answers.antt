@@ -1,55 +1,23 @@
-use Rattle.leaves.specs.Name.{lowered, same_name}
-use Rattle.leaves.specs.Sanitise.{spaced, scrubbed}
-use Rattle.leaves.proofs.ScrubLaws.{skipped, kept, ended}
-use Rattle.leaves.proofs.NameLaws.{name_short, name_more, name_stop, name_left, name_end}
 use borrow.Author.Rules.{rules}
-use native.Mathlib.Omega.{arith}
-use mathlib.Core.Path.{sym, ap, ◌∙◌}
-use mathlib.Core.Bool.{true}
-use Prim.Native.Nat.{◌+◌, ◌≤◌, ◌<◌}
-use lib.ListN.{length, get_or, drop}
+use borrow.Author.Tests.{tests}
+use mathlib.Core.Bool.{true, not}
+use mathlib.Core.Path.{◌≡◌}
+use Rattle.std.proofs.lemmas.Iterator.{YieldsList-from_slice, YieldsList-from_map}
+use Rattle.std.proofs.lemmas.Iterator.Consumers.{YieldsList-at, YieldsList-from_filter}
+use Rattle.leaves.specs.Name.{lowered}
+use Rattle.leaves.specs.Sanitise.{dropped, spaced}
+use Rattle.leaves.proofs.EqLaws.{eq_from_yields}
+use Rattle.leaves.proofs.Words.{scrubbed_lowered}
 use Rattle.leaves.proofs.sanitise.matches_scrubbed.Goals as goal
-
-pub loop-i-preserved-then-is_dropped : goal.loop-i-preserved-then-is_dropped
-loop-i-preserved-then-is_dropped c =
-    let s = c.args in
-    let h : c.loop-i.i < length s.part.now = omega arith in
-    (search rules, search rules, c.loop-i.invariant.2 ∙ ap (same_name (drop c.loop-i.n s.name.now)) (skipped _ _ _ h (sym c.is_dropped.ensures ∙ c.if-is_dropped.true)))
-
-pub returns-then-n-name : goal.returns-then-n-name
-returns-then-n-name c =
-    let s = c.args in
-    let h : c.loop-i.i < length s.part.now = omega arith in
-    let k : length s.name.now ≤ c.loop-i.n = omega arith in
-    sym (c.loop-i.invariant.2 ∙ ap (same_name (drop c.loop-i.n s.name.now)) (kept _ _ _ h (sym c.is_dropped.ensures ∙ c.if-is_dropped.false)) ∙ name_short s.name.now c.loop-i.n (spaced (get_or s.part.now c.loop-i.i 0)) (scrubbed true (drop (c.loop-i.i + 1) s.part.now)) k)
-
-pub returns-then-a-b : goal.returns-then-a-b
-returns-then-a-b c =
-    let s = c.args in
-    let h : c.loop-i.i < length s.part.now = omega arith in
-    let k : c.loop-i.n < length s.name.now = omega arith in
-    sym (c.loop-i.invariant.2 ∙ ap (same_name (drop c.loop-i.n s.name.now)) (kept _ _ _ h (sym c.is_dropped.ensures ∙ c.if-is_dropped.false)) ∙ name_stop s.name.now c.loop-i.n (spaced (get_or s.part.now c.loop-i.i 0)) (scrubbed true (drop (c.loop-i.i + 1) s.part.now)) k
-    (λ e. c.if-a-b.true (c.lower-a.ensures ∙ e ∙ ap lowered (sym c.no_break-y.ensures) ∙ sym c.lower-b.ensures)))
-
-pub loop-i-preserved : goal.loop-i-preserved
-loop-i-preserved c =
-    let s = c.args in
-    let h : c.loop-i.i < length s.part.now = omega arith in
-    let k : c.loop-i.n < length s.name.now = omega arith in (
-      search rules,
-      search rules,
-      c.loop-i.invariant.2 ∙ ap (same_name (drop c.loop-i.n s.name.now)) (kept _ _ _ h (sym c.is_dropped.ensures ∙ c.if-is_dropped.false)) ∙ name_more s.name.now c.loop-i.n (spaced (get_or s.part.now c.loop-i.i 0)) (scrubbed true (drop (c.loop-i.i + 1) s.part.now)) k
-          (sym c.lower-a.ensures ∙ c.if-a-b.false ∙ c.lower-b.ensures ∙ ap lowered c.no_break-y.ensures),
-    )
-
-pub returns-then-n-name-2 : goal.returns-then-n-name-2
-returns-then-n-name-2 c =
-    let s = c.args in
-    let h : length s.part.now ≤ c.loop-i.i = omega arith in
-    sym (c.loop-i.invariant.2 ∙ ap (same_name (drop c.loop-i.n s.name.now)) (ended _ _ _ h) ∙ name_left s.name.now c.loop-i.n c.if-n-name-2.true)
 
 pub returns : goal.returns
 returns c =
-    let s = c.args in
-    let h : length s.part.now ≤ c.loop-i.i = omega arith in
-    sym (c.loop-i.invariant.2 ∙ ap (same_name (drop c.loop-i.n s.name.now)) (ended _ _ _ h) ∙ name_end s.name.now c.loop-i.n c.if-n-name-2.false)
+    let a = c.args in
+    rw (scrubbed_lowered true a.part.now)
+    (eq_from_yields (λ o it. it ≡ o) _ _ c.eq.ensures.ran
+    (YieldsList-from_map _ lowered (YieldsList-from_slice a.name.now cc) c.map.ensures.closure (λ x r q k. search (rules, tests)))
+    (λ it i. YieldsList-at i
+    (YieldsList-from_map _ (λ x. lowered (spaced x))
+    (YieldsList-at c.map-wanted.ensures.source
+    (YieldsList-from_filter _ (λ x. not (dropped true x)) (YieldsList-from_slice a.part.now cc) c.filter-kept.ensures.closure (λ x b q k. search (rules, tests))))
+    c.map-wanted.ensures.closure (λ x r q k. search (rules, tests)))))

@@ -1,25 +1,20 @@
-use Rattle.leaves.proofs.ScrubLaws.{skipped, kept, ended}
-use borrow.Author.Rules.{rules}
 use native.Mathlib.Omega.{arith}
 use mathlib.Core.Path.{sym, ap, ◌∙◌}
-use Prim.Native.Nat.{◌≤◌, ◌<◌}
 use lib.ListN.{length}
+use Rattle.leaves.proofs.ScrubLaws.{skipped, kept, ended}
 use Rattle.leaves.proofs.sanitise.scrubbed_length.Goals as goal
+use Rattle.leaves.proofs.sanitise.scrubbed_length.Goals.{then-not-is_dropped, else-not-is_dropped}
 
-pub loop-i-preserved-then-is_dropped : goal.loop-i-preserved-then-is_dropped
-loop-i-preserved-then-is_dropped c =
-    let s = c.args in
-    let h : c.loop-i.i < length s.part.now = omega arith in
-    (search rules, search rules, rw (skipped _ _ _ h (sym c.is_dropped.ensures ∙ c.if-is_dropped.true)) at c.loop-i.invariant.2)
-
-pub loop-i-preserved : goal.loop-i-preserved
-loop-i-preserved c =
-    let s = c.args in
-    let h : c.loop-i.i < length s.part.now = omega arith in
-    (search rules, search rules, omega (arith, ap length (kept s.key s.part.now c.loop-i.i h (sym c.is_dropped.ensures ∙ c.if-is_dropped.false))))
+pub loop-x-preserved : goal.loop-x-preserved
+loop-x-preserved c =
+    let s = c.args.part.now in
+    let i = c.loop-x.x-index in
+    elim c.if-not-is_dropped.branch [
+      | then-not-is_dropped w ↦
+          (omega arith, omega (arith, ap length (kept c.args.key s i c.loop-x-test.true (sym c.is_dropped.ensures ∙ w.if-not-is_dropped.true))))
+      | else-not-is_dropped w ↦
+          (omega arith, omega (arith, ap length (skipped c.args.key s i c.loop-x-test.true (sym c.is_dropped.ensures ∙ w.if-not-is_dropped.false))))
+    ]
 
 pub returns : goal.returns
-returns c =
-    let s = c.args in
-    let h : length s.part.now ≤ c.loop-i.i = omega arith in
-    omega (arith, ap length (ended s.key s.part.now c.loop-i.i h))
+returns c = omega (arith, ap length (ended c.args.key c.args.part.now c.loop-x.x-index c.loop-x-test.false))

@@ -1,7 +1,0 @@
--- `leaves::classes::is_token` meets its contract: its bit of the class says so. Assumes nothing.
-use borrow.Author.Rules.{rules}
-use Rattle.leaves.proofs.ClassLaws.{told}
-use Rattle.leaves.proofs.classes.is_token.Goals as goal
-
-pub returns : goal.returns
-returns c = (told _ c.args.x (c.requires c.args.x (search rules))).0
