@@ -39,9 +39,7 @@ fn meaning(refusal: Refusal) -> &'static str {
         }
         Refusal::BadTrailer => "an octet after the body differs from CR LF CR LF",
         Refusal::CutShort => "file ends inside a record",
-        Refusal::TooFar => {
-            "an octet at position 4611686018427387904 or later would be taken"
-        }
+        Refusal::TooFar => { "an octet at position 4611686018427387904 or later would be taken" }
     }
 }
 

@@ -3,11 +3,10 @@ use crate::answers::{Read, Stop, Test, Verdict};
 use crate::forms::Remark;
 use crate::headers::Header;
 use crate::inputs::{Named, PIECE};
-use crate::out;
 use crate::out::{Page, Stream};
 use crate::outcomes::{Failure, Outcome};
-use crate::texts;
 use crate::texts::Lines;
+use crate::{out, texts};
 
 // How a block's first line is taken: by what it begins with, as a status or as a field.
 #[derive(Clone, Copy)]
@@ -50,15 +49,16 @@ impl Block {
     fn load(named: &Named, reading: Reading) -> Result<Block, Failure> {
         let mut piece = [0u8; PIECE];
         let mut input = named.open()?;
-        let mut n = input.read_first(&mut piece)?;
+        let n = input.read_first(&mut piece)?;
         let mut block = Block::new(reading.awaits(&piece[..n]), reading.quirks);
+        let mut is_ended = block.feed(&piece[..n]);
         for _ in 0..u64::MAX {
-            if n == 0 || block.feed(&piece[..n]) {
+            if is_ended {
                 break;
             }
-            n = input.read(&mut piece)?;
+            let n = input.read(&mut piece)?;
+            is_ended = block.feed(&piece[..n]);
         }
-        block.finish();
         Ok(block)
     }
 
@@ -74,19 +74,15 @@ impl Block {
         }
     }
 
-    // Reads on; whether that ended the block.
+    // Reads on; whether that ended the block, as the end of input does, where the piece is empty.
     fn feed(&mut self, piece: &[u8]) -> bool {
-        let (end, taken) = self.header.feed(piece);
+        let (end, taken) = match piece {
+            [] => (self.header.finish(), 0),
+            _ => self.header.feed(piece),
+        };
         self.end = end;
         self.taken = self.taken.wrapping_add(taken);
         !matches!(end, Read::More)
-    }
-
-    // Ends a block that nothing has ended yet.
-    fn finish(&mut self) {
-        if matches!(self.end, Read::More) {
-            self.end = self.header.finish();
-        }
     }
 
     fn octets(&self) -> &[u8] {
@@ -136,14 +132,10 @@ impl Block {
     fn say(&self, page: &mut Page) {
         let taken = self.taken;
         match self.end {
-            Read::Blank => page.say(format_args!(
-                "ended by a blank line; octets taken: {taken}\n"
-            )),
+            Read::Blank => page.say(format_args!("ended by a blank line; octets taken: {taken}\n")),
             Read::Refused(refusal) => {
                 let stop = Stop(refusal);
-                page.say(format_args!(
-                    "stopped by number {stop}; octets taken: {taken}\n"
-                ));
+                page.say(format_args!("stopped by number {stop}; octets taken: {taken}\n"));
                 return;
             }
             _ => page.say(format_args!(
@@ -154,9 +146,7 @@ impl Block {
         let clean = self.header.is_clean();
         let tidy = Test::tidy(self.octets(), self.status, self.quirks);
         let grammatical = Test::grammatical(self.octets());
-        page.say(format_args!(
-            "clean: {clean}\ntidy: {tidy}\ngrammatical: {grammatical}\n"
-        ));
+        page.say(format_args!("clean: {clean}\ntidy: {tidy}\ngrammatical: {grammatical}\n"));
     }
 
     // Whether it was read, and is clean; what is amiss is said.

@@ -32,27 +32,6 @@ impl fmt::Display for Before {
     }
 }
 
-// The name of a record type, by the number of a call.
-#[derive(Clone, Copy)]
-pub struct Kind(pub u64);
-
-impl fmt::Display for Kind {
-    fn fmt<W: fmt::Write>(&self, f: &mut fmt::Formatter<W>) -> fmt::Result {
-        f.write_str(match self.0 {
-            0 => "-",
-            2 => "warcinfo",
-            4 => "response",
-            8 => "resource",
-            16 => "request",
-            32 => "metadata",
-            64 => "revisit",
-            128 => "conversion",
-            256 => "continuation",
-            _ => "other",
-        })
-    }
-}
-
 // What a person may want to know of a file.
 #[derive(Clone, Copy)]
 pub enum Remark {
@@ -72,35 +51,27 @@ pub enum Remark {
 
 impl fmt::Display for Remark {
     fn fmt<W: fmt::Write>(&self, f: &mut fmt::Formatter<W>) -> fmt::Result {
-        match *self {
+        f.write_str(match *self {
+            Remark::CutOff => "the header ended by the end of input, without a blank line",
             Remark::Refused(refusal) => {
-                write!(f, "the header stopped by number {}", Stop(refusal))
+                return write!(f, "the header stopped by number {}", Stop(refusal));
+            }
+            Remark::Unclean => {
+                "nothing is written: the header is not clean, and would not be read back as it was"
             }
             Remark::Idle(n) => {
-                write!(f, "lines without a colon, which stand for nothing: {n}")
+                return write!(f, "lines without a colon, which stand for nothing: {n}");
             }
-            other => f.write_str(words(other)),
-        }
-    }
-}
-
-// Those that are the same for each file.
-fn words(remark: Remark) -> &'static str {
-    match remark {
-        Remark::CutOff => "the header ended by the end of input, without a blank line",
-        Remark::Unclean => {
-            "nothing is written: the header is not clean, and would not be read back as it was"
-        }
-        Remark::Empty => "the file is empty",
-        Remark::Packed => "what begins here is packed, as by gzip or zstd: unpack it first",
-        Remark::LfAlone => "the lines end in LF alone, and those of a WARC file end in CR LF",
-        Remark::LfHeader => "the lines end in LF alone: --quirks reads such a header",
-        Remark::NoWarc => "this is no WARC file, which begins with WARC/1.0 or WARC/1.1",
-        Remark::NoStart => "no record starts there: warc walk lists where they do",
-        Remark::BlankLine => "a blank line too many stands behind the last good record",
-        Remark::NoRecordHere => {
-            "what stands behind the last good record is none, which begins with WARC/1.0 or WARC/1.1"
-        }
-        Remark::Refused(_) | Remark::Idle(_) => "",
+            Remark::Empty => "the file is empty",
+            Remark::Packed => "what begins here is packed, as by gzip or zstd: unpack it first",
+            Remark::LfAlone => "the lines end in LF alone, and those of a WARC file end in CR LF",
+            Remark::LfHeader => "the lines end in LF alone: --quirks reads such a header",
+            Remark::NoWarc => "this is no WARC file, which begins with WARC/1.0 or WARC/1.1",
+            Remark::NoStart => "no record starts there: warc walk lists where they do",
+            Remark::BlankLine => "a blank line too many stands behind the last good record",
+            Remark::NoRecordHere => {
+                "what stands behind the last good record is none, which begins with WARC/1.0 or WARC/1.1"
+            }
+        })
     }
 }

@@ -37,7 +37,11 @@ impl Place {
     // Of two offsets in a map's table.
     fn new(from: u32, to: u32) -> Place {
         Place {
-            loan: if from < STORE { Loan::Block } else { Loan::Store },
+            loan: if from < STORE {
+                Loan::Block
+            } else {
+                Loan::Store
+            },
             from: offset(from),
             to: offset(to),
         }

@@ -5,10 +5,9 @@ use crate::forms::Remark;
 use crate::out;
 use crate::out::{Stream, Text};
 use crate::outcomes::{Failure, Outcome};
-use std::fs;
 use std::fs::File;
-use std::io;
 use std::io::{Read, Seek, SeekFrom, Stdin};
+use std::{fs, io};
 
 // The system's numbers of the errors that are found before it is asked: a name that is too long to be one, and one that is no UTF-8, by which nothing
 // can be opened.

@@ -48,91 +48,105 @@ fn path<'r>(rt: &HostRuntime, i: usize, room: &'r mut [u8; PATH]) -> Result<&'r 
     }
 }
 
-// What is done with the records of a file that is walked over.
-fn task(command: Command, asked: Asked) -> Task {
-    match command {
-        Command::Check => Task::Count,
-        _ if asked.json => Task::Describe,
-        _ => Task::List,
+// A command, and what its arguments ask for.
+#[derive(Clone, Copy)]
+struct Job<'a> {
+    rt: &'a HostRuntime,
+    command: Command,
+    asked: Asked,
+}
+
+impl<'a> Job<'a> {
+    fn misused(&self, misuse: Misuse) -> Failure {
+        misused(self.rt, Some(self.command), misuse)
     }
-}
 
-// How a header block is read.
-fn reading(asked: Asked) -> Reading {
-    let first = match asked {
-        Asked { status: true, .. } => FirstLine::IsStatus,
-        Asked { fields: true, .. } => FirstLine::IsField,
-        _ => FirstLine::Tells,
-    };
-    Reading {
-        first,
-        quirks: asked.quirks,
-    }
-}
-
-// A command on one of its files.
-fn on_file(command: Command, asked: Asked, named: &Named) -> Outcome {
-    match command {
-        Command::Header => blocks::header(named, reading(asked)),
-        Command::Tidy => blocks::tidy(named, reading(asked)),
-        _ => walks::walk_file(named, task(command, asked), 0),
-    }
-}
-
-// A command on the file that argument i is.
-fn on_argument(rt: &HostRuntime, command: Command, asked: Asked, i: usize) -> Outcome {
-    let mut room = [0; PATH];
-    let named = Named {
-        rt,
-        path: path(rt, i, &mut room)?,
-        is_one_of_several: asked.files > 1,
-    };
-    on_file(command, asked, &named)
-}
-
-// A command on each of its files, until something cannot be written.
-fn on_each(rt: &HostRuntime, command: Command, asked: Asked, count: usize) -> Outcome {
-    let mut outcome = Ok(());
-    for i in 2..count {
-        if Argument::of(rt, Verb::Do(command), i).is_file() {
-            outcome = outcome.max(on_argument(rt, command, asked, i));
-        }
-        if outcome == Err(Failure::Unwritten) {
-            break;
+    // What is done with the records of a file that is walked over.
+    fn task(&self) -> Task {
+        match self.command {
+            Command::Check => Task::Count,
+            _ if self.asked.json => Task::Describe,
+            _ => Task::List,
         }
     }
-    outcome
-}
 
-// A command on two arguments: two files, or a file and a start.
-fn on_two(rt: &HostRuntime, command: Command) -> Outcome {
-    let mut first_room = [0; PATH];
-    let mut second_room = [0; PATH];
-    let first = path(rt, 2, &mut first_room)?;
-    let second = path(rt, 3, &mut second_room)?;
-    let file = Named::alone(rt, first);
-    match command {
-        Command::Resume => blocks::resume(&file, &Named::alone(rt, second)),
-        Command::Record => at_start(&file, command, Task::Show, second),
-        _ => at_start(&file, command, Task::Write, second),
+    // How a header block is read.
+    fn reading(&self) -> Reading {
+        let first = match self.asked {
+            Asked { status: true, .. } => FirstLine::IsStatus,
+            Asked { fields: true, .. } => FirstLine::IsField,
+            _ => FirstLine::Tells,
+        };
+        Reading {
+            first,
+            quirks: self.asked.quirks,
+        }
     }
-}
 
-// What is done with the record at a start.
-fn at_start(file: &Named, command: Command, task: Task, start: &[u8]) -> Outcome {
-    match texts::decimal(start) {
-        Some(start) => walks::walk_file(file, task, start),
-        None => Err(misused(file.rt, Some(command), Misuse::NoStart)),
+    // The command on one of its files.
+    fn on_file(&self, named: &Named) -> Outcome {
+        match self.command {
+            Command::Header => blocks::header(named, self.reading()),
+            Command::Tidy => blocks::tidy(named, self.reading()),
+            _ => walks::walk_file(named, self.task(), 0),
+        }
     }
-}
 
-fn with_arguments(rt: &HostRuntime, command: Command, asked: Asked, count: usize) -> Outcome {
-    if let Err(misuse) = asked.suit(command) {
-        return Err(misused(rt, Some(command), misuse));
+    // The command on argument i, where that is a file.
+    fn on_argument(&self, i: usize) -> Outcome {
+        if !Argument::of(self.rt, Verb::Do(self.command), i).is_file() {
+            return Ok(());
+        }
+        let mut room = [0; PATH];
+        self.on_file(&Named {
+            rt: self.rt,
+            path: path(self.rt, i, &mut room)?,
+            is_one_of_several: self.asked.files > 1,
+        })
     }
-    match command {
-        Command::Resume | Command::Record | Command::Body => on_two(rt, command),
-        _ => on_each(rt, command, asked, count),
+
+    // The command on each of its files, until something cannot be written.
+    fn on_each(&self, count: usize) -> Outcome {
+        let mut outcome = Ok(());
+        for i in 2..count {
+            outcome = outcome.max(self.on_argument(i));
+            if outcome == Err(Failure::Unwritten) {
+                break;
+            }
+        }
+        outcome
+    }
+
+    // The command on two arguments: two files, or a file and a start.
+    fn on_two(&self) -> Outcome {
+        let mut first_room = [0; PATH];
+        let mut second_room = [0; PATH];
+        let first = path(self.rt, 2, &mut first_room)?;
+        let second = path(self.rt, 3, &mut second_room)?;
+        let file = Named::alone(self.rt, first);
+        match self.command {
+            Command::Resume => blocks::resume(&file, &Named::alone(self.rt, second)),
+            Command::Record => self.at_start(&file, Task::Show, second),
+            _ => self.at_start(&file, Task::Write, second),
+        }
+    }
+
+    // What is done with the record at a start.
+    fn at_start(&self, file: &Named, task: Task, start: &[u8]) -> Outcome {
+        match texts::decimal(start) {
+            Some(start) => walks::walk_file(file, task, start),
+            None => Err(self.misused(Misuse::NoStart)),
+        }
+    }
+
+    fn run(&self, count: usize) -> Outcome {
+        if let Err(misuse) = self.asked.suit(self.command) {
+            return Err(self.misused(misuse));
+        }
+        match self.command {
+            Command::Resume | Command::Record | Command::Body => self.on_two(),
+            _ => self.on_each(count),
+        }
     }
 }
 
@@ -163,7 +177,7 @@ fn run(rt: &HostRuntime) -> Outcome {
         return helped(rt, verb, count);
     }
     match verb {
-        Verb::Do(command) => with_arguments(rt, command, asked, count),
+        Verb::Do(command) => Job { rt, command, asked }.run(count),
         Verb::Help => helped(rt, Verb::of(rt, 2), count),
         Verb::Version if count == 2 => Stream::Output.write(rt, b"warc (bisquecrow) 1.0.0\n"),
         Verb::Version | Verb::Strange => Err(misused(rt, None, Misuse::NoCommand)),

@@ -1,9 +1,8 @@
 // What is printed: pages of text, and how octets are shown on them.
 use crate::outcomes::{Failure, Outcome};
 use arrayvec::{ArrayString, ArrayVec};
-use std::fmt;
 use std::fmt::Write;
-use std::io;
+use std::{fmt, io};
 
 // Where something is written.
 #[derive(Clone, Copy)]

@@ -2,7 +2,6 @@
 ghost use Rattle.std.specs.Prelude.{◌<◌, length, IfSome};
 ghost use Rattle.std.specs.Iterator.{at_most};
 
-
 // The numbers that a start may be are below this one.
 const NO_START: u64 = 1000000000000000000;
 
@@ -90,5 +89,7 @@ fn line_end(s: &[u8], quirks: bool) -> Option<usize>
     if quirks {
         return s.iter().position(|x| *x == b'\n')?.checked_add(1);
     }
-    s.windows(2).position(|w| matches!(w, b"\r\n"))?.checked_add(2)
+    s.windows(2)
+        .position(|w| matches!(w, b"\r\n"))?
+        .checked_add(2)
 }

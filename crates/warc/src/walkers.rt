@@ -14,12 +14,47 @@ const BETWEEN: u64 = 0;
 
 const ENDED: u64 = 7;
 
+// A record whose header was read: where it starts, where its body begins and how long that is, and its type.
+#[derive(Clone, Copy)]
+pub struct Record {
+    pub start: u64,
+    pub body: u64,
+    pub length: u64,
+    pub kind: &'static str,
+}
+
+impl From<[u64; 4]> for Record {
+    fn from(numbers: [u64; 4]) -> Record {
+        let [start, body, length, code] = numbers;
+        Record {
+            start,
+            body,
+            length,
+            kind: type_name(code),
+        }
+    }
+}
+
+fn type_name(code: u64) -> &'static str {
+    match code {
+        0 => "-",
+        2 => "warcinfo",
+        4 => "response",
+        8 => "resource",
+        16 => "request",
+        32 => "metadata",
+        64 => "revisit",
+        128 => "conversion",
+        256 => "continuation",
+        _ => "other",
+    }
+}
+
 #[derive(Drop)]
 pub struct Walker {
     trail: [u64; 4],
+    record: [u64; 4],
     pub header: Header,
-    // Of the record whose header was read last: its start, where its body begins, how long that is, and the number of its type.
-    pub record: [u64; 4],
 }
 
 impl Walker {
@@ -27,8 +62,8 @@ impl Walker {
     pub fn new(position: u64) -> Walker {
         let mut walker = Walker {
             trail: [0; 4],
-            header: Header::new(),
             record: [0; 4],
+            header: Header::new(),
         };
         walker.start(position);
         walker
@@ -71,6 +106,11 @@ impl Walker {
             &self.header.block,
             &self.header.store,
         ))
+    }
+
+    // The record whose header was read last.
+    pub fn record(&self) -> Record {
+        Record::from(self.record)
     }
 
     pub fn position(&self) -> u64 {

@@ -1,12 +1,12 @@
 // The records of a file: listed, or counted up to where the file stops; of one of them its header or its body.
 use crate::answers::{Step, Stop};
-use crate::forms::{Before, Kind, Records, Remark};
+use crate::forms::{Before, Records, Remark};
 use crate::inputs::{Input, Named, PIECE};
 use crate::out;
 use crate::out::{Column, Json, Page, Stream, Text};
 use crate::outcomes::{Failure, Outcome};
 use crate::texts::Opening;
-use crate::walkers::Walker;
+use crate::walkers::{Record, Walker};
 use leaves::refusals::Refusal;
 use std::io::IsTerminal;
 
@@ -90,10 +90,7 @@ impl<'a> Walk<'a> {
     // Says on a terminal how far a long file is walked over, where the last piece passed a stride.
     fn say_progress(&self, piece: u64) {
         let position = self.walker.position();
-        if position % STRIDE < piece
-            && position >= STRIDE
-            && self.named.rt.stderr().is_terminal()
-        {
+        if position % STRIDE < piece && position >= STRIDE && self.named.rt.stderr().is_terminal() {
             let records = Records(self.good);
             let _ = out::say(
                 self.named.rt,
@@ -160,18 +157,25 @@ impl<'a> Walk<'a> {
     }
 
     fn list(&mut self) {
-        let [start, body, length, code] = self.walker.record;
+        let Record {
+            start,
+            body,
+            length,
+            kind,
+        } = self.walker.record();
         let header = &self.walker.header;
-        let kind = Kind(code);
         let date = Column(header.value(b"WARC-Date").unwrap_or_default());
         let uri = Column(header.value(b"WARC-Target-URI").unwrap_or_default());
-        self.page.say(format_args!(
-            "{start} {body} {length} {kind} {date} {uri}\n"
-        ));
+        self.page.say(format_args!("{start} {body} {length} {kind} {date} {uri}\n"));
     }
 
     fn describe(&mut self) {
-        let [start, body, length, _] = self.walker.record;
+        let Record {
+            start,
+            body,
+            length,
+            ..
+        } = self.walker.record();
         let header = &self.walker.header;
         let file = Json(Some(self.named.path));
         let kind = Json(header.value(b"WARC-Type"));
@@ -183,9 +187,13 @@ impl<'a> Walk<'a> {
     }
 
     fn show(&mut self) {
-        let [start, body, length, code] = self.walker.record;
+        let Record {
+            start,
+            body,
+            length,
+            kind,
+        } = self.walker.record();
         let header = &self.walker.header;
-        let kind = Kind(code);
         self.page.say(format_args!(
             "start: {start}\nbody: {body}\nlength: {length}\ntype: {kind}\n{header}"
         ));
@@ -224,9 +232,7 @@ impl<'a> Walk<'a> {
             )),
             Ok(Ending::Stopped(refusal)) => {
                 let stop = Stop(refusal);
-                page.say(format_args!(
-                    "stopped at position {position} by number {stop}\n"
-                ));
+                page.say(format_args!("stopped at position {position} by number {stop}\n"));
             }
             _ => {}
         }
@@ -271,7 +277,10 @@ impl<'a> Walk<'a> {
     // The same where a header is not read to its end, or its version line is none; the last good record ends where the header begins.
     fn hint_at_header(&self) -> Option<Remark> {
         let whole = self.walker.whole();
-        let header = self.walker.header.front(self.walker.position().wrapping_sub(whole));
+        let header = self
+            .walker
+            .header
+            .front(self.walker.position().wrapping_sub(whole));
         match Opening::of(header) {
             Opening::Packed => Some(Remark::Packed),
             Opening::Version => None,
