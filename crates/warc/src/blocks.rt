@@ -143,7 +143,7 @@ impl Block {
             )),
         }
         page.say(&self.header);
-        let clean = self.header.is_clean();
+        let clean = self.header.clean();
         let tidy = Test::tidy(self.octets(), self.status, self.quirks);
         let grammatical = Test::grammatical(self.octets());
         page.say(format_args!("clean: {clean}\ntidy: {tidy}\ngrammatical: {grammatical}\n"));
@@ -159,7 +159,7 @@ impl Block {
             }
             _ => named.remark(Remark::CutOff),
         }
-        if matches!(self.header.is_clean(), Test::Yes) {
+        if matches!(self.header.clean(), Test::Yes) {
             return true;
         }
         named.remark(Remark::Unclean);

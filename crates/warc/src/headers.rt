@@ -137,7 +137,7 @@ impl Header {
     }
 
     // Whether it can be written and read back.
-    pub fn is_clean(&self) -> Test {
+    pub fn clean(&self) -> Test {
         Test::from(abi::telling::bisquecrow_clean(
             &self.head,
             &self.table,

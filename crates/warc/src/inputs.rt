@@ -63,13 +63,11 @@ impl<'a> Named<'a> {
 
     // What to read from; where a file cannot be opened, why is said.
     pub fn open(&self) -> Result<Input<'a>, Failure> {
-        match source_of(self.rt, self.path) {
-            Ok(source) => Ok(Input {
-                named: *self,
-                source,
-            }),
-            Err(e) => Err(self.fail(e)),
-        }
+        let source = source_of(self.rt, self.path).map_err(|e| self.fail(e))?;
+        Ok(Input {
+            named: *self,
+            source,
+        })
     }
 }
 
@@ -90,10 +88,8 @@ fn source_of(rt: &HostRuntime, path: &[u8]) -> io::Result<Source> {
     if matches!(path, b"-") {
         return Ok(Source::Standard(rt.stdin()));
     }
-    match std::str::from_utf8(path) {
-        Ok(name) => Ok(Source::File(fs::open(rt, name)?)),
-        Err(_) => Err(io::Error::from_raw_os_error(NO_TEXT)),
-    }
+    let name = std::str::from_utf8(path).map_err(|_| io::Error::from_raw_os_error(NO_TEXT))?;
+    Ok(Source::File(fs::open(rt, name)?))
 }
 
 impl Read for Source {
@@ -123,10 +119,8 @@ impl<'a> Input<'a> {
     pub fn read(&mut self, piece: &mut [u8; PIECE]) -> Result<usize, Failure>
         ensures { IfOk result (λ n. n ≤ PIECE) }
     {
-        match self.source.read(piece) {
-            Ok(n) => Ok(n),
-            Err(e) => Err(self.named.fail(e)),
-        }
+        let named = self.named;
+        self.source.read(piece).map_err(|e| named.fail(e))
     }
 
     // Reads the first octets, or those that there are; otherwise as `read` does.

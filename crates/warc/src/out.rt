@@ -21,13 +21,10 @@ impl Stream {
 
     // Writes octets at once; where that fails, why is said.
     pub fn write(self, rt: &HostRuntime, octets: &[u8]) -> Outcome {
-        match self.put(rt, octets) {
-            Ok(()) => Ok(()),
-            Err(e) => {
-                fail(rt, "standard output", e);
-                Err(Failure::Unwritten)
-            }
-        }
+        self.put(rt, octets).map_err(|e| {
+            fail(rt, "standard output", e);
+            Failure::Unwritten
+        })
     }
 }
 
@@ -145,10 +142,10 @@ impl Escape {
 
     // Octets, mostly such as stand for themselves.
     fn write<W: fmt::Write>(self, f: &mut fmt::Formatter<W>, octets: &[u8]) -> fmt::Result {
-        if octets.iter().all(|x| self.keeps(*x)) {
-            if let Ok(text) = std::str::from_utf8(octets) {
-                return f.write_str(text);
-            }
+        if octets.iter().all(|x| self.keeps(*x))
+            && let Ok(text) = std::str::from_utf8(octets)
+        {
+            return f.write_str(text);
         }
         for x in octets {
             self.write_octet(f, *x)?;
