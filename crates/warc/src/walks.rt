@@ -43,6 +43,16 @@ enum Ending {
     Stopped(Refusal),
 }
 
+// Of a walk to whose walker the end was told.
+impl From<Step> for Ending {
+    fn from(step: Step) -> Ending {
+        match step {
+            Step::Refused(refusal) => Ending::Stopped(refusal),
+            _ => Ending::Whole,
+        }
+    }
+}
+
 // A line of progress for every 256 MiB.
 const STRIDE: u64 = 268435456;
 
@@ -126,22 +136,18 @@ impl<'a> Walk<'a> {
                     return Ok(Some(Ending::Found));
                 }
             }
-            Step::Body => {
-                if self.task == Task::Write {
-                    Stream::Output.write(self.named.rt, part)?;
-                }
+            Step::Body if self.task == Task::Write => {
+                Stream::Output.write(self.named.rt, part)?;
             }
             // The walker stands between records where one ended.
-            Step::More => {
-                if self.walker.is_between_records() {
-                    self.good = self.good.wrapping_add(1);
-                    if self.task == Task::Write {
-                        return Ok(Some(Ending::Found));
-                    }
+            Step::More if self.walker.is_between_records() => {
+                self.good = self.good.wrapping_add(1);
+                if self.task == Task::Write {
+                    return Ok(Some(Ending::Found));
                 }
             }
-            Step::End => {}
             Step::Refused(refusal) => return Ok(Some(Ending::Stopped(refusal))),
+            Step::More | Step::Body | Step::End => {}
         }
         Ok(None)
     }
@@ -304,21 +310,13 @@ pub fn walk_file(named: &Named, task: Task, position: u64) -> Outcome {
     }
     let mut walk = Walk::new(named, task, position);
     let ended = walk.run(&mut input);
-    let last = walk.walker.end();
-    let ending = ended.map(|ending| ending.unwrap_or(ending_of(last)));
+    let last = Ending::from(walk.walker.end());
+    let ending = ended.map(|ending| ending.unwrap_or(last));
     let outcome = walk.conclude(ending);
-    if let Ok(ending) = ending {
-        if let Some(hint) = walk.hint(ending) {
-            named.remark(hint);
-        }
+    if let Ok(ending) = ending
+        && let Some(hint) = walk.hint(ending)
+    {
+        named.remark(hint);
     }
     outcome
-}
-
-// How a walk ended to whose walker the end was told.
-fn ending_of(step: Step) -> Ending {
-    match step {
-        Step::Refused(refusal) => Ending::Stopped(refusal),
-        _ => Ending::Whole,
-    }
 }
