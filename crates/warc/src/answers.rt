@@ -1,4 +1,4 @@
-// What the calls of `abi` answer, by their numbers.
+// What the calls of `abi` answer. They answer numbers, as C sees them: each stands here once.
 use crate::headers::LIMIT;
 use leaves::refusals;
 use leaves::refusals::Refusal;

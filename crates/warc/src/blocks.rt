@@ -52,6 +52,7 @@ impl Block {
         let n = input.read_first(&mut piece)?;
         let mut block = Block::new(reading.awaits(&piece[..n]), reading.quirks);
         let mut is_ended = block.feed(&piece[..n]);
+        // Nothing says that an input ends, and a proved loop has to.
         for _ in 0..u64::MAX {
             if is_ended {
                 break;

@@ -1,4 +1,4 @@
-// A header block and the map of it, as the calls of `abi` are lent them.
+// A header block and the map of it, as the calls of `abi` are lent them: in arrays and numbers, as C sees them.
 use crate::answers::{Read, Test, Verdict};
 use crate::out::Text;
 use leaves::names;

@@ -108,7 +108,7 @@ pub struct Input<'a> {
     source: Source,
 }
 
-// So many octets are read at once.
+// So many octets are read at once, into memory of the program's own: none is asked for in a run, so none can be short.
 pub const PIECE: usize = 262144;
 
 // How many octets tell how a block begins.

@@ -23,7 +23,7 @@ use outcomes::{Failure, Outcome};
 use std::env::Env;
 use walks::Task;
 
-// Where the exit status is written: who runs the program reads it there.
+// Where the exit status is written: who runs the program reads it there, so it is no `ExitCode`.
 const STATUS_FILENO: i32 = 3;
 
 fn help(rt: &HostRuntime, to: Stream, command: Option<Command>) -> Outcome {

@@ -51,7 +51,7 @@ impl fmt::Display for Reason {
 // So many octets are written at once.
 const ROOM: usize = 65536;
 
-// Text that is written where the page is full, and where it is flushed. Its memory is its own: none is asked for in a run, so none can be short.
+// Text that is written where the page is full, and where it is flushed. Its memory is the program's own, as that of a piece.
 #[derive(Drop)]
 pub struct Page<'a> {
     rt: &'a HostRuntime,

@@ -1,4 +1,4 @@
-// A walker over the records of a file, as the calls of `abi` are lent it.
+// A walker over the records of a file, as the calls of `abi` are lent it: in numbers, as C sees them.
 use crate::answers::Step;
 use crate::headers::{Header, LIMIT};
 

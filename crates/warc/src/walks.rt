@@ -82,6 +82,7 @@ impl<'a> Walk<'a> {
     fn run(&mut self, input: &mut Input) -> Result<Option<Ending>, Failure> {
         let mut piece = [0u8; PIECE];
         let mut n = 0;
+        // Nothing says that an input ends, and a proved loop has to.
         for _ in 0..u64::MAX {
             self.page.flush()?;
             self.say_progress(n as u64);
@@ -112,6 +113,7 @@ impl<'a> Walk<'a> {
 
     fn walk_over(&mut self, piece: &[u8]) -> Result<Option<Ending>, Failure> {
         let mut rest = piece;
+        // Likewise: a step may take nothing.
         for _ in 0..u64::MAX {
             if rest.is_empty() {
                 break;
