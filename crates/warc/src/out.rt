@@ -1,6 +1,8 @@
-// What is printed, by way of a lent buffer. Each call answers where in the buffer the next octet goes, or FAILED.
-use crate::texts;
-use std::io::{Error, Write};
+// What is printed: pages of text, and how octets are shown on them.
+use crate::outcomes::{Failure, Outcome};
+use arrayvec::{ArrayString, ArrayVec};
+use std::fmt::Write;
+use std::{fmt, io};
 
 // Where something is written.
 #[derive(Clone, Copy)]
@@ -9,230 +11,192 @@ pub enum Stream {
     Error,
 }
 
-pub const ROOM: usize = 65536;
-
-// A write failed, which was said: what comes behind it is dropped.
-pub const FAILED: usize = 18446744073709551615;
-
-// What stands before a place.
-pub fn front<'a>(said: &'a [u8; 65536], at: usize) -> &'a [u8] {
-    texts::front(said, at)
-}
-
-fn put(rt: &HostRuntime, to: Stream, s: &[u8]) -> Result<(), Error> {
-    match to {
-        Stream::Output => rt.stdout().write_all(s),
-        Stream::Error => rt.stderr().write_all(s),
-    }
-}
-
-// What an error's text says before the number that the system gives it.
-fn reason<'a>(said: &'a [u8]) -> &'a [u8] {
-    for i in 0..said.len() {
-        if texts::begins(texts::part(said, i, said.len()), b" (os error ") {
-            return texts::front(said, i);
+impl Stream {
+    fn put(self, rt: &HostRuntime, octets: &[u8]) -> io::Result<()> {
+        match self {
+            Stream::Output => rt.stdout().write_all(octets),
+            Stream::Error => rt.stderr().write_all(octets),
         }
     }
-    said
-}
 
-// How many octets of a room an error's text takes.
-fn error_text(e: Error, room: &mut [u8; 512]) -> usize {
-    let mut rest = room.as_mut_slice();
-    match write!(rest, "{e}") {
-        Ok(()) => std::num::wrapping_sub_usize(512, rest.len()),
-        Err(_) => 0,
+    // Writes octets at once; where that fails, why is said.
+    pub fn write(self, rt: &HostRuntime, octets: &[u8]) -> Outcome {
+        self.put(rt, octets).map_err(|e| {
+            fail(rt, "standard output", e);
+            Failure::Unwritten
+        })
     }
 }
 
 // Writes a line on standard error: a name, a colon and why a call failed.
-pub fn fail(rt: &HostRuntime, name: &[u8], e: Error) {
-    let mut room = [0u8; 512];
-    let n = error_text(e, &mut room);
-    for part in [name, b": ", reason(texts::front(&room, n)), b"\n"] {
-        let _ = put(rt, Stream::Error, part);
-    }
+pub fn fail<D: fmt::Display + Drop>(rt: &HostRuntime, name: D, e: io::Error) {
+    let _ = eprintln!(rt; "{name}: {}", Reason(e));
 }
 
-// Writes octets at once; where that fails, why is said.
-pub fn send(rt: &HostRuntime, to: Stream, s: &[u8]) -> bool {
-    match put(rt, to, s) {
-        Ok(()) => true,
-        Err(e) => {
-            fail(rt, b"standard output", e);
-            false
+// What an error's text says before the number that the system gives it.
+#[derive(Drop)]
+struct Reason(io::Error);
+
+impl fmt::Display for Reason {
+    fn fmt<W: fmt::Write>(&self, f: &mut fmt::Formatter<W>) -> fmt::Result {
+        let mut text = ArrayString::<512>::new();
+        write!(text, "{}", self.0)?;
+        match text.as_str().split_once(" (os error ") {
+            Some((reason, _)) => f.write_str(reason),
+            None => f.write_str(text.as_str()),
         }
     }
 }
 
-// Writes what stands before a place.
-pub fn flush(rt: &HostRuntime, to: Stream, said: &[u8; 65536], at: usize) -> usize {
-    if at <= ROOM {
-        if send(rt, to, front(said, at)) {
-            return 0;
-        }
-        return FAILED;
-    }
-    at
+// So many octets are written at once.
+const ROOM: usize = 65536;
+
+// Text that is written where the page is full, and where it is flushed. Its memory is the program's own, as that of a piece.
+#[derive(Drop)]
+pub struct Page<'a> {
+    rt: &'a HostRuntime,
+    to: Stream,
+    text: ArrayVec<u8, ROOM>,
+    // A write failed, which was said: what comes behind it is dropped.
+    is_lost: bool,
 }
 
-pub fn octet(rt: &HostRuntime, said: &mut [u8; 65536], at: usize, x: u8) -> usize {
-    if at < ROOM {
-        said[at] = x;
-        return at + 1;
-    }
-    let next = flush(rt, Stream::Output, said, at);
-    if next == 0 {
-        said[0] = x;
-        return 1;
-    }
-    next
-}
-
-fn glyph(d: u8) -> u8 {
-    if d < 10 {
-        return d + 48;
-    }
-    if d < 16 {
-        return d + 55;
-    }
-    b'?'
-}
-
-// An octet as two hexadecimal digits.
-fn hex(rt: &HostRuntime, said: &mut [u8; 65536], at: usize, x: u8) -> usize {
-    let next = octet(rt, said, at, glyph(x / 16));
-    octet(rt, said, next, glyph(x % 16))
-}
-
-// Whether octets fit behind a place, where they are put.
-fn puts(said: &mut [u8], at: usize, s: &[u8]) -> bool {
-    if at <= said.len() {
-        if s.len() <= said.len() - at {
-            lines::copy_in(&mut said[at..], s);
-            return true;
+impl<'a> Page<'a> {
+    pub fn new(rt: &'a HostRuntime, to: Stream) -> Page<'a> {
+        Page {
+            rt,
+            to,
+            text: ArrayVec::new(),
+            is_lost: false,
         }
     }
-    false
-}
 
-fn words_by_octets(rt: &HostRuntime, said: &mut [u8; 65536], at: usize, s: &[u8]) -> usize {
-    let mut at = at;
-    for i in 0..s.len() {
-        let x = s[i];
-        at = octet(rt, said, at, x);
+    // Puts words on the page; whether they could be written `flush` tells.
+    pub fn say<D: fmt::Display + Drop>(&mut self, words: D) {
+        let _ = self.write_fmt(words);
     }
-    at
-}
 
-// Words as they are.
-pub fn words(rt: &HostRuntime, said: &mut [u8; 65536], at: usize, s: &[u8]) -> usize {
-    if puts(said, at, s) {
-        return std::num::wrapping_add_usize(at, s.len());
-    }
-    words_by_octets(rt, said, at, s)
-}
-
-// How octets are shown.
-pub const TEXT: u8 = 0;
-
-pub const COLUMN: u8 = 1;
-
-pub const STRING: u8 = 2;
-
-// Which octets stand for themselves: those from least to `~` but two.
-fn least(manner: u8) -> u8 {
-    match manner {
-        COLUMN => b'!',
-        _ => b' ',
-    }
-}
-
-fn odd(manner: u8) -> u8 {
-    match manner {
-        TEXT => 0,
-        COLUMN => b'%',
-        _ => b'"',
-    }
-}
-
-fn odder(manner: u8) -> u8 {
-    match manner {
-        STRING => b'\\',
-        _ => 0,
-    }
-}
-
-fn is_plain(x: u8, least: u8, odd: u8, odder: u8) -> bool {
-    if x < least {
-        false
-    } else if x > b'~' {
-        false
-    } else if x == odd {
-        false
-    } else {
-        x != odder
-    }
-}
-
-// An octet that does not stand for itself.
-fn escaped(rt: &HostRuntime, said: &mut [u8; 65536], at: usize, x: u8, manner: u8) -> usize {
-    match manner {
-        STRING => {
-            let next = words(rt, said, at, b"\\u00");
-            hex(rt, said, next, x)
+    pub fn flush(&mut self) -> Outcome {
+        if self.is_lost {
+            return Err(Failure::Unwritten);
         }
-        _ => {
-            let next = octet(rt, said, at, b'%');
-            hex(rt, said, next, x)
+        let written = self.to.write(self.rt, self.text.as_slice());
+        self.text.clear();
+        self.is_lost = written.is_err();
+        written
+    }
+
+    fn push(&mut self, x: u8) -> fmt::Result {
+        if self.text.is_full() && self.flush().is_err() {
+            return Err(fmt::Error);
+        }
+        self.text.try_push(x).map_err(|_| fmt::Error)
+    }
+}
+
+impl<'a> fmt::Write for Page<'a> {
+    fn write_str(&mut self, s: &str) -> fmt::Result {
+        if self.is_lost {
+            return Err(fmt::Error);
+        }
+        if self.text.try_extend_from_slice(s.as_bytes()).is_ok() {
+            return Ok(());
+        }
+        for x in s.as_bytes() {
+            self.push(*x)?;
+        }
+        Ok(())
+    }
+}
+
+// Writes words alone on a page.
+pub fn say<D: fmt::Display + Drop>(rt: &HostRuntime, to: Stream, words: D) -> Outcome {
+    let mut page = Page::new(rt, to);
+    page.say(words);
+    page.flush()
+}
+
+// Which octets stand for themselves, and how another is written.
+#[derive(Clone, Copy)]
+enum Escape {
+    Text,
+    Column,
+    Json,
+}
+
+impl Escape {
+    fn keeps(self, x: u8) -> bool {
+        match self {
+            Escape::Text => matches!(x, b' '..=b'~'),
+            Escape::Column => matches!(x, b'!'..=b'~') && x != b'%',
+            Escape::Json => matches!(x, b' '..=b'~') && x != b'"' && x != b'\\',
         }
     }
-}
 
-fn shown(rt: &HostRuntime, said: &mut [u8; 65536], at: usize, x: u8, manner: u8) -> usize {
-    match is_plain(x, least(manner), odd(manner), odder(manner)) {
-        true => octet(rt, said, at, x),
-        false => escaped(rt, said, at, x, manner),
+    fn sign(self) -> &'static str {
+        match self {
+            Escape::Json => "\\u00",
+            _ => "%",
+        }
+    }
+
+    // Octets, mostly such as stand for themselves.
+    fn write<W: fmt::Write>(self, f: &mut fmt::Formatter<W>, octets: &[u8]) -> fmt::Result {
+        if octets.iter().all(|x| self.keeps(*x))
+            && let Ok(text) = std::str::from_utf8(octets)
+        {
+            return f.write_str(text);
+        }
+        for x in octets {
+            self.write_octet(f, *x)?;
+        }
+        Ok(())
+    }
+
+    fn write_octet<W: fmt::Write>(self, f: &mut fmt::Formatter<W>, x: u8) -> fmt::Result {
+        if self.keeps(x) {
+            return f.write_char(char::from(x));
+        }
+        let sign = self.sign();
+        write!(f, "{sign}{x:02X}")
     }
 }
 
-fn still(all: bool, more: bool) -> bool {
-    if all { more } else { false }
-}
+// Octets as far as a terminal takes them for nothing else.
+#[derive(Clone, Copy)]
+pub struct Text<'a>(pub &'a [u8]);
 
-fn are_plain(s: &[u8], least: u8, odd: u8, odder: u8) -> bool {
-    let mut all = true;
-    for i in 0..s.len() {
-        all = still(all, is_plain(s[i], least, odd, odder));
+impl<'a> fmt::Display for Text<'a> {
+    fn fmt<W: fmt::Write>(&self, f: &mut fmt::Formatter<W>) -> fmt::Result {
+        Escape::Text.write(f, self.0)
     }
-    all
 }
 
-fn octet_by_octet(
-    rt: &HostRuntime,
-    said: &mut [u8; 65536],
-    at: usize,
-    s: &[u8],
-    manner: u8,
-) -> usize {
-    let mut at = at;
-    for i in 0..s.len() {
-        let x = s[i];
-        at = shown(rt, said, at, x, manner);
+// Octets without spaces, - for none; a column that is a dash is not none.
+#[derive(Clone, Copy)]
+pub struct Column<'a>(pub &'a [u8]);
+
+impl<'a> fmt::Display for Column<'a> {
+    fn fmt<W: fmt::Write>(&self, f: &mut fmt::Formatter<W>) -> fmt::Result {
+        match self.0 {
+            [] => f.write_str("-"),
+            b"-" => f.write_str("%2D"),
+            octets => Escape::Column.write(f, octets),
+        }
     }
-    at
 }
 
-// Octets, mostly such as stand for themselves.
-pub fn octets(rt: &HostRuntime, said: &mut [u8; 65536], at: usize, s: &[u8], manner: u8) -> usize {
-    if are_plain(s, least(manner), odd(manner), odder(manner)) {
-        return words(rt, said, at, s);
+// Octets as a string of JSON, null for none.
+#[derive(Clone, Copy)]
+pub struct Json<'a>(pub Option<&'a [u8]>);
+
+impl<'a> fmt::Display for Json<'a> {
+    fn fmt<W: fmt::Write>(&self, f: &mut fmt::Formatter<W>) -> fmt::Result {
+        let Some(octets) = self.0 else {
+            return f.write_str("null");
+        };
+        f.write_str("\"")?;
+        Escape::Json.write(f, octets)?;
+        f.write_str("\"")
     }
-    octet_by_octet(rt, said, at, s, manner)
-}
-
-pub fn decimal(rt: &HostRuntime, said: &mut [u8; 65536], at: usize, n: u64) -> usize {
-    let mut digits = [0u8; 20];
-    let k = io::decimal(n, &mut digits);
-    words(rt, said, at, &digits[..k])
 }

@@ -1,141 +1,95 @@
-// Parts of octets; texts of several lines, each with its end, as tables.
+// What octets say: a number, and what a text begins with.
+ghost use Rattle.std.specs.Prelude.{◌<◌, length, IfSome};
+ghost use Rattle.std.specs.Iterator.{at_most};
 
-// The first n octets, or all.
-pub fn front<'a>(s: &'a [u8], n: usize) -> &'a [u8] {
-    if n <= s.len() {
-        return &s[0..n];
+// The numbers that a start may be are below this one.
+const NO_START: u64 = 1000000000000000000;
+
+// A number of up to 18 digits.
+pub fn decimal(s: &[u8]) -> Option<u64> {
+    if !s.iter().all(|x| x.is_ascii_digit()) {
+        return None;
     }
-    s
-}
-
-// The octets from a place before another; none where there are no such places.
-pub fn part<'a>(s: &'a [u8], from: usize, to: usize) -> &'a [u8] {
-    if from <= to {
-        if to <= s.len() {
-            return &s[from..to];
-        }
-    }
-    front(s, 0)
-}
-
-// A line of a text, the first being number 0, without its end.
-pub fn line<'a>(text: &'a [u8], wanted: usize) -> &'a [u8] {
-    let mut here = 0;
-    let mut from = 0;
-    for i in 0..text.len() {
-        if text[i] == b'\n' {
-            if here == wanted {
-                return part(text, from, i);
-            }
-            here = std::num::wrapping_add_usize(here, 1);
-            from = i + 1;
-        }
-    }
-    front(text, 0)
-}
-
-// The number of the line that is a word; that of all lines where none is.
-pub fn number(text: &[u8], word: &[u8]) -> usize {
-    let mut here = 0;
-    let mut from = 0;
-    for i in 0..text.len() {
-        if text[i] == b'\n' {
-            if equals::same_octets(part(text, from, i), word) {
-                return here;
-            }
-            here = std::num::wrapping_add_usize(here, 1);
-            from = i + 1;
-        }
-    }
-    here
-}
-
-// No number.
-pub const NONE: u64 = 18446744073709551615;
-
-// A number of up to 18 digits; NONE for another text.
-pub fn decimal(s: &[u8]) -> u64 {
-    let mut n = 0u64;
-    if s.len() == 0 {
-        return NONE;
-    }
-    for i in 0..s.len() {
-        n = behind(n, s[i]);
-    }
-    n
-}
-
-// What a digit behind a number makes of it.
-fn behind(n: u64, x: u8) -> u64 {
-    if n < 100000000000000000 {
-        if x >= 48 {
-            if x <= 57 {
-                let d = x - 48;
-                return n * 10 + d as u64;
-            }
-        }
-    }
-    NONE
-}
-
-// Whether a text begins with a word.
-pub fn begins(s: &[u8], word: &[u8]) -> bool {
-    equals::same_octets(front(s, word.len()), word)
+    let text = std::str::from_utf8(s).ok()?;
+    let n = text.parse::<u64>().ok()?;
+    (n < NO_START).then_some(n)
 }
 
 // Whether the first line of a text ends in LF alone.
 pub fn is_lf_alone(s: &[u8]) -> bool {
-    let first = line(s, 0);
-    let n = first.len();
-    if n > 0 {
-        return first[n - 1] != b'\r';
+    let mut lines = s.split(|x| *x == b'\n');
+    match (lines.next(), lines.next()) {
+        (Some([.., last]), Some(_)) => *last != b'\r',
+        _ => false,
     }
-    false
 }
-
-// What a text begins with.
-pub const OTHER: u64 = 0;
-
-pub const PACKED: u64 = 1;
-
-pub const VERSION: u64 = 2;
-
-pub const VERSION_LF: u64 = 3;
-
-pub const LINE_END: u64 = 4;
 
 // Whether a text begins as gzip's and zstd's files do.
 pub fn is_packed(s: &[u8]) -> bool {
-    if begins(s, b"\x1f\x8b") {
-        return true;
-    }
-    begins(s, b"\x28\xb5\x2f\xfd")
-}
-
-fn line_end(x: u8) -> u64 {
-    match x {
-        b'\r' | b'\n' => LINE_END,
-        _ => OTHER,
-    }
-}
-
-fn first_octet(s: &[u8]) -> u64 {
-    if s.len() > 0 {
-        return line_end(s[0]);
-    }
-    OTHER
+    s.starts_with(b"\x1f\x8b") || s.starts_with(b"\x28\xb5\x2f\xfd")
 }
 
 // What a text begins with, of what a record's header might.
-pub fn opening(s: &[u8]) -> u64 {
-    if is_packed(s) {
-        return PACKED;
-    }
-    if begins(s, b"WARC/") {
-        if is_lf_alone(s) {
-            return VERSION_LF;
+#[derive(Clone, Copy, PartialEq, Eq)]
+pub enum Opening {
+    Packed,
+    Version,
+    VersionInLf,
+    LineEnd,
+    Other,
+}
+
+impl Opening {
+    pub fn of(s: &[u8]) -> Opening {
+        match s {
+            _ if is_packed(s) => Opening::Packed,
+            [b'W', b'A', b'R', b'C', b'/', ..] if is_lf_alone(s) => Opening::VersionInLf,
+            [b'W', b'A', b'R', b'C', b'/', ..] => Opening::Version,
+            [b'\r' | b'\n', ..] => Opening::LineEnd,
+            _ => Opening::Other,
         }
-        return VERSION;
     }
-    first_octet(s)
+}
+
+// The lines of a header block, each with its end: CR LF, with quirks LF alone.
+#[derive(Drop)]
+pub struct Lines<'a> {
+    rest: &'a [u8],
+    quirks: bool,
+}
+
+impl<'a> Lines<'a> {
+    // Without the blank line at the end of the block.
+    pub fn new(block: &'a [u8], quirks: bool) -> Lines<'a> {
+        let rest = match block {
+            [rest @ .., _] => rest,
+            [] => block,
+        };
+        Lines { rest, quirks }
+    }
+}
+
+impl<'a> Iterator for Lines<'a> {
+    type Item = &'a [u8];
+
+    ghost remaining = { λ s. at_most (length s.rest.now) };
+
+    fn next(&mut self) -> Option<&'a [u8]> {
+        let end = line_end(self.rest, self.quirks)?;
+        let (line, rest) = self.rest.split_at_checked(end)?;
+        self.rest = rest;
+        Some(line)
+    }
+}
+
+// Where the first line ends.
+fn line_end(s: &[u8], quirks: bool) -> Option<usize>
+    ensures { IfSome result (λ end. 0 < end) }
+{
+    if quirks {
+        return s.iter().position(|x| *x == b'\n')?.checked_add(1);
+    }
+    s.windows(2)
+        .position(|w| matches!(w, b"\r\n"))?
+        .checked_add(2)
 }

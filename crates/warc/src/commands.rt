@@ -1,48 +1,47 @@
-// What is said of the program and of each command, to who asks for it and to who used it wrongly.
-use crate::inputs;
-use crate::out::Stream;
+// The commands, and what is said of the program and of each of them, to who asks for it and to who used it wrongly.
 
-pub const WALK: usize = 0;
+#[derive(Clone, Copy, PartialEq, Eq)]
+pub enum Command {
+    Walk,
+    Check,
+    Header,
+    Tidy,
+    Resume,
+    Record,
+    Body,
+}
 
-pub const CHECK: usize = 1;
-
-pub const HEADER: usize = 2;
-
-pub const TIDY: usize = 3;
-
-pub const RESUME: usize = 4;
-
-pub const RECORD: usize = 5;
-
-pub const BODY: usize = 6;
+impl Command {
+    // Whether it takes that many files; a start counts as one.
+    pub fn takes(self, files: usize) -> bool {
+        match self {
+            Command::Walk | Command::Check | Command::Header | Command::Tidy => files > 0,
+            Command::Resume | Command::Record | Command::Body => files == 2,
+        }
+    }
+}
 
 // The help of a command, or of the program.
-pub fn help(rt: &HostRuntime, to: Stream, command: usize) -> u64 {
+pub fn help(command: Option<Command>) -> &'static str {
     match command {
-        WALK => inputs::text(
-            rt,
-            to,
-            b"warc walk [--json] FILE...
+        Some(Command::Walk) => {
+            "warc walk [--json] FILE...
 
 Lists the records of each file: start, body offset, body length, type, date, target URI; - where there is none. Octets outside 33 to 126,
 and %, stand as %XX. How the file ends is said on standard error.
 
   --json    an object for each record, on a line of its own: file, start, body, length, type, date, uri; null where there is none.
             The texts are as they stand in the file: each character of a string is one octet, from U+0000 to U+00FF.
-",
-        ),
-        CHECK => inputs::text(
-            rt,
-            to,
-            b"warc check FILE...
+"
+        }
+        Some(Command::Check) => {
+            "warc check FILE...
 
 Says of each file how many records are good and, where it stops: the position, the number, what that means and what was good before it.
-",
-        ),
-        HEADER | TIDY => inputs::text(
-            rt,
-            to,
-            b"warc header [--status | --fields] [--quirks] FILE...
+"
+        }
+        Some(Command::Header | Command::Tidy) => {
+            "warc header [--status | --fields] [--quirks] FILE...
 warc tidy [--status | --fields] [--quirks] FILE...
 
 header shows the header block that each file begins with: its status, its fields, where they lie, from the block's first octet or in the
@@ -54,31 +53,25 @@ grammatical (a WARC 1.1 header). tidy writes it rebuilt, unless it is not clean.
   --quirks  lines may end in LF alone, and a line of blanks ends the block
 
 The words status, fields and quirks do the same: a file of such a name is ./status.
-",
-        ),
-        RESUME => inputs::text(
-            rt,
-            to,
-            b"warc resume FIRST SECOND
+"
+        }
+        Some(Command::Resume) => {
+            "warc resume FIRST SECOND
 
 Says whether the body of the second HTTP answer may be appended to that of the first: both have the same ETag, one each, the second's code
 is 206, and each header is closed by its blank line.
-",
-        ),
-        RECORD | BODY => inputs::text(
-            rt,
-            to,
-            b"warc record FILE START
+"
+        }
+        Some(Command::Record | Command::Body) => {
+            "warc record FILE START
 warc body FILE START
 
 record shows the record that starts at octet START of a file, as walk lists them: its numbers, its version line and its fields, and where
 those lie, from START. body writes its body, and says on standard error where it is cut off.
-",
-        ),
-        _ => inputs::text(
-            rt,
-            to,
-            b"warc walk FILE...            lists the records: start, body offset, body length, type, date, target URI
+"
+        }
+        None => {
+            "warc walk FILE...            lists the records: start, body offset, body length, type, date, target URI
 warc check FILE...           says where and why a file stops, and how many records were good
 warc record FILE START       shows the record at a start: its numbers and its header
 warc body FILE START         writes the body of the record at a start
@@ -90,7 +83,7 @@ warc --version               says which one this is
 
 FILE is a path, or - for standard input, which is one file; a path that begins with - is written ./-
 Exit status: 0 done and good, 1 the file or the answer is not, 2 wrong use or a file that cannot be read.
-",
-        ),
+"
+        }
     }
 }
