@@ -1,0 +1,200 @@
+//! What a line's words do, one after the other.
+use crate::answers;
+use crate::answers::{Reading, Refusal, Step, Taken};
+use crate::map::Map;
+use crate::octets::Hex;
+use crate::output::Output;
+use crate::shows::Loans;
+use crate::words::{Begin, Flags, Word};
+use std::alloc::{AllocError, Global};
+
+/// The default limit.
+const LIMIT: usize = 32768;
+
+/// The numbers of a walker that has ended.
+const ENDED: [u64; 4] = [0, 0, 0, 7];
+
+/// The octets that an output is lent with.
+const BLANK: u8 = 0xbb;
+
+/// A line's map and walker, the map that is kept, and the limit and room of the last begin.
+#[derive(Drop)]
+pub struct Case {
+    alloc: Global,
+    map: Map,
+    kept: Map,
+    trail: [u64; 4],
+    limit: usize,
+    room: usize,
+}
+
+impl Case {
+    /// A line begins with empty maps and a walker that has ended.
+    pub fn new(alloc: Global) -> Self {
+        Case {
+            alloc,
+            map: Map::new(alloc),
+            kept: Map::new(alloc),
+            trail: ENDED,
+            limit: 0,
+            room: 0,
+        }
+    }
+
+    /// Does what a word says, and prints what the calls answer.
+    pub fn answer(&mut self, word: Word<'_>, out: &mut Output) -> Result<(), AllocError> {
+        let alloc = self.alloc;
+        let map = &mut self.map;
+        match word {
+            Word::Begin(begin) => out.say_done("b", self.begin(begin)?),
+            Word::Clear => out.say_done("c", map.clear()),
+            Word::Feed(piece) => out.say_taken(map.feed(&piece.decode(alloc)?)),
+            Word::Finish => out.say_result(map.finish()),
+            Word::Set(key, value) => {
+                out.say_done("ok", map.set(&key.decode(alloc)?, &value.decode(alloc)?))
+            }
+            Word::Append(key, value) => {
+                out.say_done("ok", map.append(&key.decode(alloc)?, &value.decode(alloc)?))
+            }
+            Word::Remove(key) => out.say_done("ok", map.remove(&key.decode(alloc)?)),
+            Word::SetStatus(text) => out.say_done("ok", map.set_status(&text.decode(alloc)?)),
+            Word::Find(name, start) => out.say_known(map.find(&name.decode(alloc)?, start)),
+            Word::Value(i) => out.say(shown(map.value(i))),
+            Word::Key(i) => out.say(shown(map.key(i))),
+            Word::Status => out.say(shown(map.status())),
+            Word::Reason => out.say_known(map.reason().map(|text| text.map(Hex))),
+            Word::StatusCode => out.say_known(map.status_code()),
+            Word::RecordType => out.say_known(map.record_type()),
+            Word::Clean => out.say_truth(map.is_clean()),
+            Word::Write(n) => self.write(n, out)?,
+            Word::Rebuild(n) => self.rebuild(n, out)?,
+            Word::Keep => {
+                self.kept = map.clone()?;
+                out.say("K")
+            }
+            Word::Equal => out.say_truth(self.kept.equals(&self.map)),
+            Word::Resume => out.say_result(self.kept.resumes(&self.map)),
+            Word::Dump => out.say(&self.map),
+            Word::Loans => out.say(Loans {
+                map: &self.map,
+                limit: self.limit,
+                room: self.room,
+            }),
+            Word::ContentLength(text) => {
+                out.say(leaves::lengths::content_length(&text.decode(alloc)?))
+            }
+            Word::Tidy(flags, limit, block) => {
+                out.say_truth(is_tidy(flags, limit, &block.decode(alloc)?))
+            }
+            Word::Grammatical(text) => out.say_truth(answers::truth(
+                abi::telling::bisquecrow_grammatical(&text.decode(alloc)?),
+            )),
+            Word::Walker(room, position) => out.say_done("ws", self.walker(room, position)?),
+            Word::Walk(piece) => self.walk(&piece.decode(alloc)?, out),
+            Word::End => self.end(out),
+            Word::Damage(damage) => {
+                damage.apply(&mut map.head, &mut map.table, &mut self.trail);
+                out.say("x")
+            }
+        }
+        Ok(())
+    }
+
+    fn begin(&mut self, begin: Begin) -> Result<Result<(), Refusal>, AllocError> {
+        self.limit = begin.limit;
+        self.room = begin.room;
+        self.map.lend(begin.block, begin.store)?;
+        Ok(self.map.begin(begin.flags, begin.limit, begin.room))
+    }
+
+    /// Lends a block of the default limit and a store of the room.
+    fn walker(&mut self, room: usize, position: u64) -> Result<Result<(), Refusal>, AllocError> {
+        self.limit = LIMIT;
+        self.room = room;
+        self.map.lend(LIMIT, room)?;
+        let map = &mut self.map;
+        Ok(answers::done(abi::walking::bisquecrow_walker(
+            &mut self.trail,
+            &mut map.head,
+            &map.table,
+            room,
+            position,
+            &map.block,
+            &map.store,
+        )))
+    }
+
+    /// Writes into an output that is blank, and shows all of it.
+    fn write(&self, n: usize, out: &mut Output) -> Result<(), AllocError> {
+        let mut sheet = vec![in self.alloc; BLANK; n]?;
+        out.say_sheet(self.map.write(&mut sheet), &sheet);
+        Ok(())
+    }
+
+    fn rebuild(&self, n: usize, out: &mut Output) -> Result<(), AllocError> {
+        let mut sheet = vec![in self.alloc; BLANK; n]?;
+        out.say_sheet(self.map.rebuild(&mut sheet), &sheet);
+        Ok(())
+    }
+
+    /// One call of the walker on a piece.
+    fn step(&mut self, piece: &[u8]) -> Taken<Step> {
+        let map = &mut self.map;
+        let mut taken = 0;
+        let mut record = [0; 4];
+        let answer = abi::walking::bisquecrow_walk(
+            &mut self.trail,
+            &mut map.head,
+            &mut map.table,
+            &mut map.block,
+            &mut map.store,
+            piece,
+            &mut taken,
+            &mut record,
+        );
+        Taken {
+            answer: Step::new(answer, record),
+            taken,
+        }
+    }
+
+    /// Calls the walker on a piece until it is taken, or the walker stops or ends, or takes nothing of the whole.
+    fn walk(&mut self, piece: &[u8], out: &mut Output) {
+        let mut rest = piece;
+        for _ in 0..u64::MAX {
+            let step = self.step(rest);
+            let (body, behind) = rest.split_at(rest.len().min(step.taken as usize));
+            match step.answer {
+                Ok(Step::Body) => out.say(format_args!("body:{}", Hex(body))),
+                _ => out.say_taken(step),
+            }
+            let goes_on = matches!(step.answer, Ok(Step::More | Step::Record(_) | Step::Body));
+            if !goes_on || behind.is_empty() || behind.len() == piece.len() {
+                return;
+            }
+            out.say("/");
+            rest = behind;
+        }
+    }
+
+    fn end(&mut self, out: &mut Output) {
+        let map = &mut self.map;
+        let answer = abi::walking::bisquecrow_end(
+            &mut self.trail,
+            &mut map.head,
+            &map.table,
+            &map.block,
+            &map.store,
+        );
+        out.say_result(Step::new(answer, [0; 4]))
+    }
+}
+
+/// What is shown of a text: no octets where there are none to show.
+fn shown<'a>(text: Result<Option<&'a [u8]>, Refusal>) -> Hex<'a> {
+    Hex(text.ok().flatten().unwrap_or(&[]))
+}
+
+fn is_tidy(flags: Flags, limit: usize, block: &[u8]) -> Result<bool, Refusal> {
+    answers::truth(abi::telling::bisquecrow_tidy(block, flags.awaits, flags.quirks, limit))
+}
