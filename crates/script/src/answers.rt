@@ -1,4 +1,5 @@
 //! What the calls answer by number, and how it is printed.
+use crate::map::Loan;
 use std::fmt;
 
 /// A call refused, by the number that says why.
@@ -108,27 +109,6 @@ impl fmt::Display for Step {
     }
 }
 
-/// In which loan what was looked for lies.
-#[derive(Clone, Copy, Debug, PartialEq, Eq)]
-pub enum Found {
-    InBlock,
-    InStore,
-    Nothing,
-}
-
-impl TryFrom<u32> for Found {
-    type Error = Refusal;
-
-    fn try_from(answer: u32) -> Result<Self, Refusal> {
-        match answer {
-            68 => Ok(Found::Nothing),
-            71 => Ok(Found::InBlock),
-            72 => Ok(Found::InStore),
-            _ => Err(Refusal(answer)),
-        }
-    }
-}
-
 /// Whether a download may go on.
 #[derive(Clone, Copy, Debug, PartialEq, Eq)]
 pub enum Verdict {
@@ -160,6 +140,16 @@ impl fmt::Display for Verdict {
             Verdict::Differ => "2",
             Verdict::NotPartial => "3",
         })
+    }
+}
+
+/// In which loan a text lies that is there, is not, or was refused.
+pub fn found(answer: u32) -> Result<Option<Loan>, Refusal> {
+    match answer {
+        68 => Ok(None),
+        71 => Ok(Some(Loan::Block)),
+        72 => Ok(Some(Loan::Store)),
+        _ => Err(Refusal(answer)),
     }
 }
 

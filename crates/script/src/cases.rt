@@ -1,18 +1,16 @@
 //! What a line's words do, one after the other.
 use crate::answers;
-use crate::answers::{Reading, Refusal, Step, Taken};
+use crate::answers::{Refusal, Step};
 use crate::map::Map;
 use crate::octets::Hex;
 use crate::output::Output;
 use crate::shows::Loans;
+use crate::walks::Walker;
 use crate::words::{Begin, Flags, Word};
 use std::alloc::{AllocError, Global};
 
 /// The default limit.
 const LIMIT: usize = 32768;
-
-/// The numbers of a walker that has ended.
-const ENDED: [u64; 4] = [0, 0, 0, 7];
 
 /// The octets that an output is lent with.
 const BLANK: u8 = 0xbb;
@@ -23,7 +21,7 @@ pub struct Case {
     alloc: Global,
     map: Map,
     kept: Map,
-    trail: [u64; 4],
+    walker: Walker,
     limit: usize,
     room: usize,
 }
@@ -35,7 +33,7 @@ impl Case {
             alloc,
             map: Map::new(alloc),
             kept: Map::new(alloc),
-            trail: ENDED,
+            walker: Walker::new(),
             limit: 0,
             room: 0,
         }
@@ -46,7 +44,18 @@ impl Case {
         let alloc = self.alloc;
         let map = &mut self.map;
         match word {
-            Word::Begin(begin) => out.say_done("b", self.begin(begin)?),
+            Word::Begin(
+                Begin {
+                    flags,
+                    limit,
+                    room,
+                    block,
+                    store,
+                },
+            ) => {
+                self.lend(limit, room, block, store)?;
+                out.say_done("b", self.map.begin(flags, limit, room))
+            }
             Word::Clear => out.say_done("c", map.clear()),
             Word::Feed(piece) => out.say_taken(map.feed(&piece.decode(alloc)?)),
             Word::Finish => out.say_result(map.finish()),
@@ -89,39 +98,31 @@ impl Case {
             Word::Grammatical(text) => out.say_truth(answers::truth(
                 abi::telling::bisquecrow_grammatical(&text.decode(alloc)?),
             )),
-            Word::Walker(room, position) => out.say_done("ws", self.walker(room, position)?),
+            Word::Walker(room, position) => {
+                self.lend(LIMIT, room, LIMIT, room)?;
+                out.say_done("ws", self.walker.start(&mut self.map, room, position))
+            }
             Word::Walk(piece) => self.walk(&piece.decode(alloc)?, out),
-            Word::End => self.end(out),
+            Word::End => out.say_result(self.walker.end(map)),
             Word::Damage(damage) => {
-                damage.apply(&mut map.head, &mut map.table, &mut self.trail);
+                damage.apply(&mut map.head, &mut map.table, &mut self.walker.trail);
                 out.say("x")
             }
         }
         Ok(())
     }
 
-    fn begin(&mut self, begin: Begin) -> Result<Result<(), Refusal>, AllocError> {
-        self.limit = begin.limit;
-        self.room = begin.room;
-        self.map.lend(begin.block, begin.store)?;
-        Ok(self.map.begin(begin.flags, begin.limit, begin.room))
-    }
-
-    /// Lends a block of the default limit and a store of the room.
-    fn walker(&mut self, room: usize, position: u64) -> Result<Result<(), Refusal>, AllocError> {
-        self.limit = LIMIT;
+    /// Lends afresh, for a limit and a room.
+    fn lend(
+        &mut self,
+        limit: usize,
+        room: usize,
+        block: usize,
+        store: usize,
+    ) -> Result<(), AllocError> {
+        self.limit = limit;
         self.room = room;
-        self.map.lend(LIMIT, room)?;
-        let map = &mut self.map;
-        Ok(answers::done(abi::walking::bisquecrow_walker(
-            &mut self.trail,
-            &mut map.head,
-            &map.table,
-            room,
-            position,
-            &map.block,
-            &map.store,
-        )))
+        self.map.lend(block, store)
     }
 
     /// Writes into an output that is blank, and shows all of it.
@@ -137,32 +138,11 @@ impl Case {
         Ok(())
     }
 
-    /// One call of the walker on a piece.
-    fn step(&mut self, piece: &[u8]) -> Taken<Step> {
-        let map = &mut self.map;
-        let mut taken = 0;
-        let mut record = [0; 4];
-        let answer = abi::walking::bisquecrow_walk(
-            &mut self.trail,
-            &mut map.head,
-            &mut map.table,
-            &mut map.block,
-            &mut map.store,
-            piece,
-            &mut taken,
-            &mut record,
-        );
-        Taken {
-            answer: Step::new(answer, record),
-            taken,
-        }
-    }
-
     /// Calls the walker on a piece until it is taken, or the walker stops or ends, or takes nothing of the whole.
     fn walk(&mut self, piece: &[u8], out: &mut Output) {
         let mut rest = piece;
         for _ in 0..u64::MAX {
-            let step = self.step(rest);
+            let step = self.walker.walk(&mut self.map, rest);
             let (body, behind) = rest.split_at(rest.len().min(step.taken as usize));
             match step.answer {
                 Ok(Step::Body) => out.say(format_args!("body:{}", Hex(body))),
@@ -175,18 +155,6 @@ impl Case {
             out.say("/");
             rest = behind;
         }
-    }
-
-    fn end(&mut self, out: &mut Output) {
-        let map = &mut self.map;
-        let answer = abi::walking::bisquecrow_end(
-            &mut self.trail,
-            &mut map.head,
-            &map.table,
-            &map.block,
-            &map.store,
-        );
-        out.say_result(Step::new(answer, [0; 4]))
     }
 }
 

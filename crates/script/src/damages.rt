@@ -1,15 +1,7 @@
 //! The word `x`: the name of a number of a map or of a walker, and what it is to be. Numbers and flags in decimal, the phase `R` or `D`, a place
 //! `b.3.7` or `s.0.9`, no status `-`.
+use crate::map::{Loan, STORE};
 use crate::reading::{Cursor, Nonsense};
-
-/// In a table, offsets of the store begin at this number.
-pub const STORE: u32 = 1 << 31;
-
-#[derive(Clone, Copy, Debug, PartialEq, Eq)]
-pub enum Loan {
-    Block,
-    Store,
-}
 
 /// Where a text lies: in a loan, from an offset to before another.
 #[derive(Clone, Copy, Debug, PartialEq, Eq)]
@@ -70,34 +62,20 @@ fn number(line: &mut Cursor<'_>, before: u8) -> Result<usize, Nonsense> {
 
 fn phase(line: &mut Cursor<'_>) -> Result<u64, Nonsense> {
     line.expect(b' ')?;
-    let phase = match line.rest().first() {
-        Some(b'D') => 0,
-        Some(b'R') => 1,
-        _ => return Err(line.nonsense()),
-    };
-    line.take(1);
-    Ok(phase)
-}
-
-impl Loan {
-    fn read(line: &mut Cursor<'_>) -> Result<Option<Loan>, Nonsense> {
-        line.expect(b' ')?;
-        let loan = match line.rest().first() {
-            Some(b'-') => None,
-            Some(b'b') => Some(Loan::Block),
-            Some(b's') => Some(Loan::Store),
-            _ => return Err(line.nonsense()),
-        };
-        line.take(1);
-        Ok(loan)
-    }
+    line.one_of(|letter| match letter {
+        b'D' => Some(0),
+        b'R' => Some(1),
+        _ => None,
+    })
 }
 
 impl Place {
     fn read(line: &mut Cursor<'_>) -> Result<Option<Place>, Nonsense> {
-        let Some(loan) = Loan::read(line)? else {
+        line.expect(b' ')?;
+        if line.expect(b'-').is_ok() {
             return Ok(None);
-        };
+        }
+        let loan = line.one_of(Loan::lettered)?;
         let from = number(line, b'.')?;
         let to = number(line, b'.')?;
         match (u32::try_from(from), u32::try_from(to)) {

@@ -12,6 +12,7 @@ mod octets;
 mod output;
 mod reading;
 mod shows;
+mod walks;
 mod words;
 
 use cases::Case;
@@ -43,7 +44,7 @@ fn run(alloc: Global, line: &[u8], out: &mut Output) -> Result<(), AllocError> {
 fn main(rt: HostRuntime) -> io::Result<()> {
     let mut input = Input::new(&rt)?;
     let mut out = Output::new(&rt)?;
-    // Nothing says that an input ends, and a proved loop has to: no run uses up as many turns.
+    // No run uses up as many turns: nothing says that an input ends, and a proved loop has to.
     for _ in 0..u64::MAX {
         if input.is_used_up() {
             out.flush();

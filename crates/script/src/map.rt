@@ -1,11 +1,31 @@
 //! A map in numbers, with the loans that its texts lie in, and the calls over it.
 use crate::answers;
-use crate::answers::{Found, Reading, Refusal, Taken, Verdict};
+use crate::answers::{Reading, Refusal, Taken, Verdict};
 use crate::words::Flags;
 use std::alloc::{AllocError, Global};
 
 /// The octets that loans are lent with.
 pub const FRESH: u8 = 0xaa;
+
+/// In a table, offsets of the store begin at this number.
+pub const STORE: u32 = 1 << 31;
+
+/// What a map's texts lie in.
+#[derive(Clone, Copy, Debug, PartialEq, Eq)]
+pub enum Loan {
+    Block,
+    Store,
+}
+
+impl Loan {
+    pub fn lettered(letter: u8) -> Option<Loan> {
+        match letter {
+            b'b' => Some(Loan::Block),
+            b's' => Some(Loan::Store),
+            _ => None,
+        }
+    }
+}
 
 #[derive(Clone, Drop)]
 pub struct Map {
@@ -13,12 +33,6 @@ pub struct Map {
     pub table: [u32; 1024],
     pub block: Vec<u8>,
     pub store: Vec<u8>,
-}
-
-/// The octets of a loan from an offset to before another, as far as there are such.
-pub fn part(loan: &[u8], from: u64, to: u64) -> &[u8] {
-    let end = loan.len().min(to as usize);
-    loan.get(from as usize..end).unwrap_or(&[])
 }
 
 impl Map {
@@ -38,6 +52,16 @@ impl Map {
         self.block = vec![in alloc; FRESH; block]?;
         self.store = vec![in alloc; FRESH; store]?;
         Ok(())
+    }
+
+    /// The octets of a loan from an offset to before another, as far as there are such.
+    pub fn part(&self, loan: Loan, from: u64, to: u64) -> &[u8] {
+        let octets = match loan {
+            Loan::Block => self.block.as_slice(),
+            Loan::Store => self.store.as_slice(),
+        };
+        let end = octets.len().min(to as usize);
+        octets.get(from as usize..end).unwrap_or(&[])
     }
 
     pub fn begin(&mut self, flags: Flags, limit: usize, room: usize) -> Result<(), Refusal> {
@@ -129,67 +153,59 @@ impl Map {
         ))
     }
 
-    /// The text of a call's answer, and where it lies; none where there is none to show.
-    fn text(&self, answer: u32, from: u64, to: u64) -> Result<Option<&[u8]>, Refusal> {
-        Ok(match Found::try_from(answer)? {
-            Found::InBlock => Some(part(&self.block, from, to)),
-            Found::InStore => Some(part(&self.store, from, to)),
-            Found::Nothing => None,
-        })
+    /// The text that a call finds, which is lent the numbers of where it lies.
+    fn found<F: FnOnce(&mut u64, &mut u64) -> u32>(&self, call: F) -> Result<Option<&[u8]>, Refusal>
+        requires { F.IsAlwaysCallable call }
+    {
+        let (mut from, mut to) = (0, 0);
+        let loan = answers::found(call(&mut from, &mut to))?;
+        Ok(loan.map(|loan| self.part(loan, from, to)))
     }
 
     pub fn value(&self, i: usize) -> Result<Option<&[u8]>, Refusal> {
-        let (mut from, mut to) = (0, 0);
-        let answer = abi::looking::bisquecrow_value(
-            &self.head,
-            &self.table,
-            &self.block,
-            &self.store,
-            i,
-            &mut from,
-            &mut to,
-        );
-        self.text(answer, from, to)
+        let Map {
+            head,
+            table,
+            block,
+            store,
+        } = self;
+        self.found(|from, to| {
+            abi::looking::bisquecrow_value(head, table, block, store, i, from, to)
+        })
     }
 
     pub fn key(&self, i: usize) -> Result<Option<&[u8]>, Refusal> {
-        let (mut from, mut to) = (0, 0);
-        let answer = abi::looking::bisquecrow_key(
-            &self.head,
-            &self.table,
-            &self.block,
-            &self.store,
-            i,
-            &mut from,
-            &mut to,
-        );
-        self.text(answer, from, to)
+        let Map {
+            head,
+            table,
+            block,
+            store,
+        } = self;
+        self.found(|from, to| abi::looking::bisquecrow_key(head, table, block, store, i, from, to))
     }
 
     pub fn status(&self) -> Result<Option<&[u8]>, Refusal> {
-        let (mut from, mut to) = (0, 0);
-        let answer = abi::looking::bisquecrow_status(
-            &self.head,
-            &self.table,
-            &self.block,
-            &self.store,
-            &mut from,
-            &mut to,
-        );
-        self.text(answer, from, to)
+        let Map {
+            head,
+            table,
+            block,
+            store,
+        } = self;
+        self.found(|from, to| {
+            abi::looking::bisquecrow_status(head, table, block, store, from, to)
+        })
     }
 
     pub fn reason(&self) -> Result<Option<&[u8]>, Refusal> {
-        let (mut from, mut to) = (0, 0);
-        let answer = abi::looking::bisquecrow_reason(
-            &self.head,
-            &self.table,
-            &self.block,
-            &self.store,
-            &mut from,
-            &mut to,
-        );
-        self.text(answer, from, to)
+        let Map {
+            head,
+            table,
+            block,
+            store,
+        } = self;
+        self.found(|from, to| {
+            abi::looking::bisquecrow_reason(head, table, block, store, from, to)
+        })
     }
 
     /// The number of the first field of a name from a field on.
@@ -206,10 +222,7 @@ impl Map {
             &mut from,
             &mut to,
         );
-        Ok(match Found::try_from(answer)? {
-            Found::InBlock | Found::InStore => Some(number),
-            Found::Nothing => None,
-        })
+        Ok(answers::found(answer)?.map(|_| number))
     }
 
     pub fn status_code(&self) -> Result<Option<u64>, Refusal> {

@@ -115,14 +115,22 @@ impl<'a> Cursor<'a> {
         Ok(number)
     }
 
-    pub fn flag(&mut self) -> Result<bool, Nonsense> {
-        let flag = match self.rest().first() {
-            Some(b'0') => false,
-            Some(b'1') => true,
-            _ => return Err(self.nonsense()),
-        };
+    /// Takes a character that has a meaning.
+    pub fn one_of<T, F: FnOnce(u8) -> Option<T>>(&mut self, meaning: F) -> Result<T, Nonsense>
+        requires { F.IsAlwaysCallable meaning }
+    {
+        let character = self.rest().first().copied();
+        let meant = character.and_then(meaning).ok_or(self.nonsense())?;
         self.take(1);
-        Ok(flag)
+        Ok(meant)
+    }
+
+    pub fn flag(&mut self) -> Result<bool, Nonsense> {
+        self.one_of(|character| match character {
+            b'0' => Some(false),
+            b'1' => Some(true),
+            _ => None,
+        })
     }
 
     /// Octets in hex, or `-` for none.

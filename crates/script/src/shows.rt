@@ -1,14 +1,12 @@
 //! How a map and its loans are printed.
-use crate::damages::STORE;
-use crate::map;
-use crate::map::{FRESH, Map};
+use crate::map::{FRESH, Loan, Map, STORE};
 use crate::octets::Hex;
 use std::fmt;
 
-/// A text: its loan's letter, where it lies there, and its octets.
+/// A text: where it lies, and its octets.
 #[derive(Clone, Copy, Debug)]
 struct Text<'a> {
-    loan: char,
+    loan: Loan,
     from: u64,
     to: u64,
     octets: Hex<'a>,
@@ -16,42 +14,38 @@ struct Text<'a> {
 
 impl fmt::Display for Text<'_> {
     fn fmt<W: fmt::Write>(&self, f: &mut fmt::Formatter<W>) -> fmt::Result {
-        write!(f, "{}{}.{}={}", self.loan, self.from, self.to, self.octets)
+        let letter = match self.loan {
+            Loan::Block => 'b',
+            Loan::Store => 's',
+        };
+        write!(f, "{letter}{}.{}={}", self.from, self.to, self.octets)
     }
 }
 
 impl Map {
-    fn in_block(&self, from: u64, to: u64) -> Text<'_> {
+    fn text(&self, loan: Loan, from: u64, to: u64) -> Text<'_> {
         Text {
-            loan: 'b',
+            loan,
             from,
             to,
-            octets: Hex(map::part(&self.block, from, to)),
+            octets: Hex(self.part(loan, from, to)),
         }
     }
 
-    fn in_store(&self, from: u64, to: u64) -> Text<'_> {
-        Text {
-            loan: 's',
-            from,
-            to,
-            octets: Hex(map::part(&self.store, from, to)),
-        }
-    }
-
-    /// The text of two numbers of a table.
+    /// The text that two numbers of a table say.
     fn text_at(&self, from: u32, to: u32) -> Text<'_> {
         match from.checked_sub(STORE) {
-            None => self.in_block(u64::from(from), u64::from(to)),
-            Some(from) => self.in_store(u64::from(from), u64::from(to)),
+            None => self.text(Loan::Block, u64::from(from), u64::from(to)),
+            Some(from) => self.text(Loan::Store, u64::from(from), u64::from(to)),
         }
     }
 
     fn status_text(&self) -> Option<Text<'_>> {
-        match self.head[6] {
+        let [_, _, _, _, _, _, kind, from, to, _, _, _, _] = self.head;
+        match kind {
             0 => None,
-            1 => Some(self.in_block(self.head[7], self.head[8])),
-            _ => Some(self.in_store(self.head[7], self.head[8])),
+            1 => Some(self.text(Loan::Block, from, to)),
+            _ => Some(self.text(Loan::Store, from, to)),
         }
     }
 }
