@@ -1,8 +1,8 @@
-//! What the calls answer by number, and how it is printed.
+// What the calls answer by number, and how it is printed.
 use crate::map::Loan;
 use std::fmt;
 
-/// A call refused, by the number that says why.
+// A call refused, by the number that says why.
 #[derive(Clone, Copy, Debug, PartialEq, Eq)]
 pub struct Refusal(u32);
 
@@ -12,7 +12,7 @@ impl fmt::Display for Refusal {
     }
 }
 
-/// Where a reading is.
+// Where a reading is.
 #[derive(Clone, Copy, Debug, PartialEq, Eq)]
 pub enum Reading {
     More,
@@ -43,7 +43,7 @@ impl fmt::Display for Reading {
     }
 }
 
-/// Where a record and its body begin, how long the body is, and the number of its type.
+// Where a record and its body begin, how long the body is, and the number of its type.
 #[derive(Clone, Copy, Debug, PartialEq, Eq)]
 pub struct Record {
     start: u64,
@@ -76,7 +76,7 @@ impl fmt::Display for Record {
     }
 }
 
-/// What a walker came to.
+// What a walker came to.
 #[derive(Clone, Copy, Debug, PartialEq, Eq)]
 pub enum Step {
     More,
@@ -86,7 +86,7 @@ pub enum Step {
 }
 
 impl Step {
-    /// From a walker's answer, with the numbers of the record that it may have come to.
+    // From a walker's answer, with the numbers of the record that it may have come to.
     pub fn new(answer: u32, record: [u64; 4]) -> Result<Self, Refusal> {
         match answer {
             64 => Ok(Step::More),
@@ -109,7 +109,7 @@ impl fmt::Display for Step {
     }
 }
 
-/// Whether a download may go on.
+// Whether a download may go on.
 #[derive(Clone, Copy, Debug, PartialEq, Eq)]
 pub enum Verdict {
     Append,
@@ -143,7 +143,7 @@ impl fmt::Display for Verdict {
     }
 }
 
-/// In which loan a text lies that is there, is not, or was refused.
+// In which loan a text lies that is there, is not, or was refused.
 pub fn found(answer: u32) -> Result<Option<Loan>, Refusal> {
     match answer {
         68 => Ok(None),
@@ -153,7 +153,7 @@ pub fn found(answer: u32) -> Result<Option<Loan>, Refusal> {
     }
 }
 
-/// What is done, or was refused.
+// What is done, or was refused.
 pub fn done(answer: u32) -> Result<(), Refusal> {
     match answer {
         0 => Ok(()),
@@ -161,7 +161,7 @@ pub fn done(answer: u32) -> Result<(), Refusal> {
     }
 }
 
-/// Yes, no or a refusal.
+// Yes, no or a refusal.
 pub fn truth(answer: u32) -> Result<bool, Refusal> {
     match answer {
         69 => Ok(true),
@@ -170,7 +170,7 @@ pub fn truth(answer: u32) -> Result<bool, Refusal> {
     }
 }
 
-/// A number that is known, missing or refused.
+// A number that is known, missing or refused.
 pub fn known(answer: u32, number: u64) -> Result<Option<u64>, Refusal> {
     match answer {
         67 => Ok(Some(number)),
@@ -179,7 +179,7 @@ pub fn known(answer: u32, number: u64) -> Result<Option<u64>, Refusal> {
     }
 }
 
-/// What a reading or a walker answered, and how much it took.
+// What a reading or a walker answered, and how much it took.
 #[derive(Clone, Copy, Debug)]
 pub struct Taken<T> {
     pub answer: Result<T, Refusal>,

@@ -1,4 +1,4 @@
-//! What a line's words do, one after the other.
+// What a line's words do, one after the other.
 use crate::answers;
 use crate::answers::{Refusal, Step};
 use crate::map::Map;
@@ -6,16 +6,16 @@ use crate::octets::Hex;
 use crate::output::Output;
 use crate::shows::Loans;
 use crate::walks::Walker;
-use crate::words::{Begin, Flags, Word};
+use crate::words::{Flags, Word};
 use std::alloc::{AllocError, Global};
 
-/// The default limit.
+// The default limit.
 const LIMIT: usize = 32768;
 
-/// The octets that an output is lent with.
+// The octets that an output is lent with.
 const BLANK: u8 = 0xbb;
 
-/// A line's map and walker, the map that is kept, and the limit and room of the last begin.
+// A line's map and walker, the map that is kept, and the limit and room of the last begin.
 #[derive(Drop)]
 pub struct Case {
     alloc: Global,
@@ -27,7 +27,7 @@ pub struct Case {
 }
 
 impl Case {
-    /// A line begins with empty maps and a walker that has ended.
+    // A line begins with empty maps and a walker that has ended.
     pub fn new(alloc: Global) -> Self {
         Case {
             alloc,
@@ -39,22 +39,14 @@ impl Case {
         }
     }
 
-    /// Does what a word says, and prints what the calls answer.
+    // Does what a word says, and prints what the calls answer.
     pub fn answer(&mut self, word: Word<'_>, out: &mut Output) -> Result<(), AllocError> {
         let alloc = self.alloc;
         let map = &mut self.map;
         match word {
-            Word::Begin(
-                Begin {
-                    flags,
-                    limit,
-                    room,
-                    block,
-                    store,
-                },
-            ) => {
-                self.lend(limit, room, block, store)?;
-                out.say_done("b", self.map.begin(flags, limit, room))
+            Word::Begin(begin) => {
+                self.lend(begin.limit, begin.room, begin.block, begin.store)?;
+                out.say_done("b", self.map.begin(begin.flags, begin.limit, begin.room))
             }
             Word::Clear => out.say_done("c", map.clear()),
             Word::Feed(piece) => out.say_taken(map.feed(&piece.decode(alloc)?)),
@@ -112,7 +104,7 @@ impl Case {
         Ok(())
     }
 
-    /// Lends afresh, for a limit and a room.
+    // Lends afresh, for a limit and a room.
     fn lend(
         &mut self,
         limit: usize,
@@ -125,7 +117,7 @@ impl Case {
         self.map.lend(block, store)
     }
 
-    /// Writes into an output that is blank, and shows all of it.
+    // Writes into an output that is blank, and shows all of it.
     fn write(&self, n: usize, out: &mut Output) -> Result<(), AllocError> {
         let mut sheet = vec![in self.alloc; BLANK; n]?;
         out.say_sheet(self.map.write(&mut sheet), &sheet);
@@ -138,7 +130,7 @@ impl Case {
         Ok(())
     }
 
-    /// Calls the walker on a piece until it is taken, or the walker stops or ends, or takes nothing of the whole.
+    // Calls the walker on a piece until it is taken, or the walker stops or ends, or takes nothing of the whole.
     fn walk(&mut self, piece: &[u8], out: &mut Output) {
         let mut rest = piece;
         for _ in 0..u64::MAX {
@@ -158,7 +150,7 @@ impl Case {
     }
 }
 
-/// What is shown of a text: no octets where there are none to show.
+// What is shown of a text: no octets where there are none to show.
 fn shown<'a>(text: Result<Option<&'a [u8]>, Refusal>) -> Hex<'a> {
     Hex(text.ok().flatten().unwrap_or(&[]))
 }

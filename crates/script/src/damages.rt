@@ -1,9 +1,9 @@
-//! The word `x`: the name of a number of a map or of a walker, and what it is to be. Numbers and flags in decimal, the phase `R` or `D`, a place
-//! `b.3.7` or `s.0.9`, no status `-`.
+// The word `x`: the name of a number of a map or of a walker, and what it is to be. Numbers and flags in decimal, the phase `R` or `D`, a place
+// `b.3.7` or `s.0.9`, no status `-`.
 use crate::map::{Loan, STORE};
 use crate::reading::{Cursor, Nonsense};
 
-/// Where a text lies: in a loan, from an offset to before another.
+// Where a text lies: in a loan, from an offset to before another.
 #[derive(Clone, Copy, Debug, PartialEq, Eq)]
 pub struct Place {
     pub loan: Loan,
@@ -11,7 +11,7 @@ pub struct Place {
     pub to: u32,
 }
 
-/// What has a name, the numbers of a head and of a trail by their index there.
+// What has a name: numbers of a head and of a trail by their index there, and what has more than one.
 #[derive(Clone, Copy, Debug, PartialEq, Eq)]
 enum Part {
     Head(usize),
@@ -22,7 +22,7 @@ enum Part {
     Value,
 }
 
-/// What is overwritten, and what it is to be; of a key and a value the number of the field.
+// What is overwritten, and what it is to be; of a key and a value the number of the field.
 #[derive(Clone, Copy, Debug, PartialEq, Eq)]
 pub enum Damage {
     Head(usize, u64),
@@ -55,11 +55,6 @@ impl Part {
     }
 }
 
-fn number(line: &mut Cursor<'_>, before: u8) -> Result<usize, Nonsense> {
-    line.expect(before)?;
-    line.number()
-}
-
 fn phase(line: &mut Cursor<'_>) -> Result<u64, Nonsense> {
     line.expect(b' ')?;
     line.one_of(|letter| match letter {
@@ -76,15 +71,15 @@ impl Place {
             return Ok(None);
         }
         let loan = line.one_of(Loan::lettered)?;
-        let from = number(line, b'.')?;
-        let to = number(line, b'.')?;
+        let from = line.number_behind(b'.')?;
+        let to = line.number_behind(b'.')?;
         match (u32::try_from(from), u32::try_from(to)) {
             (Ok(from), Ok(to)) => Ok(Some(Place { loan, from, to })),
             _ => Err(line.nonsense()),
         }
     }
 
-    /// The place of a key or a value, which each field has.
+    // The place of a key or a value, which each field has.
     fn read_some(line: &mut Cursor<'_>) -> Result<Place, Nonsense> {
         Place::read(line)?.ok_or(line.nonsense())
     }
@@ -95,12 +90,12 @@ impl Damage {
         line.expect(b' ')?;
         let name = line.name();
         Ok(match Part::named(name).ok_or(line.nonsense())? {
-            Part::Head(i) => Damage::Head(i, number(line, b' ')? as u64),
+            Part::Head(i) => Damage::Head(i, line.number_behind(b' ')? as u64),
             Part::Phase => Damage::Head(12, phase(line)?),
             Part::Status => Damage::Status(Place::read(line)?),
-            Part::Trail(i) => Damage::Trail(i, number(line, b' ')? as u64),
-            Part::Key => Damage::Key(number(line, b'.')?, Place::read_some(line)?),
-            Part::Value => Damage::Value(number(line, b'.')?, Place::read_some(line)?),
+            Part::Trail(i) => Damage::Trail(i, line.number_behind(b' ')? as u64),
+            Part::Key => Damage::Key(line.number_behind(b'.')?, Place::read_some(line)?),
+            Part::Value => Damage::Value(line.number_behind(b'.')?, Place::read_some(line)?),
         })
     }
 }
@@ -111,7 +106,7 @@ fn put<T: Drop>(numbers: &mut [T], i: usize, number: T) {
     }
 }
 
-/// The status has three numbers of a head.
+// The status has three numbers of a head.
 fn put_status(head: &mut [u64; 13], status: Option<Place>) {
     let numbers = match status {
         None => [0, 0, 0],
@@ -120,14 +115,14 @@ fn put_status(head: &mut [u64; 13], status: Option<Place>) {
                 Loan::Block => 1,
                 Loan::Store => 2,
             };
-            [kind, place.from as u64, place.to as u64]
+            [kind, u64::from(place.from), u64::from(place.to)]
         }
     };
     head[6..9].copy_from_slice(&numbers);
 }
 
 impl Place {
-    /// How a place begins in a table. An offset that has no room there is one that no loan has.
+    // How a place begins in a table. An offset that has no room there is one that no loan has.
     fn in_table(self) -> u32 {
         match self.loan {
             _ if self.from >= STORE => u32::MAX,
@@ -137,14 +132,14 @@ impl Place {
     }
 }
 
-/// Its numbers stand in a table from an index on.
+// A place has two numbers of a table, from an index on; past the table nothing is overwritten.
 fn put_place(table: &mut [u32; 1024], i: usize, place: Place) {
     put(table, i, place.in_table());
     put(table, i.saturating_add(1), place.to);
 }
 
 impl Damage {
-    /// Overwrites the numbers where they stand.
+    // Overwrites the numbers where they stand.
     pub fn apply(self, head: &mut [u64; 13], table: &mut [u32; 1024], trail: &mut [u64; 4]) {
         match self {
             Damage::Head(i, number) => put(head, i, number),

@@ -1,11 +1,11 @@
-//! Standard input, a line at a time.
+// Standard input, a line at a time.
 use std::io;
 use std::io::{BufRead, BufReader, Read, Stdin};
 
-/// The most octets of a line: behind as many with no LF another line begins.
+// The most octets of a line: behind as many with no LF another line begins.
 const LONGEST: u64 = 1048576;
 
-/// How much is read at once.
+// How much is read at once.
 const CHUNK: usize = 65536;
 
 #[derive(Drop)]
@@ -22,12 +22,12 @@ impl Input {
         })
     }
 
-    /// Whether all that was read is used up.
+    // Whether all that was read is used up.
     pub fn is_used_up(&self) -> bool {
         self.reader.buffer().is_empty()
     }
 
-    /// The next line without its LF; none at the end of the input. What a read fails on is the end.
+    // The next line without its LF; none at the end of the input. What a read fails on is the end.
     pub fn line(&mut self) -> Option<&[u8]> {
         self.line.clear();
         let _ = self

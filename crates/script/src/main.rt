@@ -1,6 +1,6 @@
-//! Runs cases written one to a line and prints every answer: the words of a line by single spaces, octets in lower-case hex, `-`
-//! for no octets, numbers in decimal; the answers of a line by single spaces on a line. A line that makes no sense prints its
-//! answers up to there, `?` and the column, and the next line is read. The words are answered by the calls that other languages link.
+// Runs cases written one to a line and prints every answer: the words of a line by single spaces, octets in lower-case hex, `-`
+// for no octets, numbers in decimal; the answers of a line by single spaces on a line. A line that makes no sense prints its
+// answers up to there, `?` and the column, and the next line is read. The words are answered by the calls that other languages link.
 #![tactic(auto)]
 
 mod answers;
@@ -22,7 +22,7 @@ use std::alloc::{AllocError, Global};
 use std::io;
 use words::Words;
 
-/// Answers the words of a line, up to one that makes no sense.
+// Answers the words of a line, up to one that makes no sense.
 fn run(alloc: Global, line: &[u8], out: &mut Output) -> Result<(), AllocError> {
     let mut case = Case::new(alloc);
     for (i, word) in Words::new(line).enumerate() {

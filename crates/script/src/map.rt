@@ -1,16 +1,16 @@
-//! A map in numbers, with the loans that its texts lie in, and the calls over it.
+// A map in numbers, with the loans that its texts lie in, and the calls over it.
 use crate::answers;
 use crate::answers::{Reading, Refusal, Taken, Verdict};
 use crate::words::Flags;
 use std::alloc::{AllocError, Global};
 
-/// The octets that loans are lent with.
+// The octets that loans are lent with.
 pub const FRESH: u8 = 0xaa;
 
-/// In a table, offsets of the store begin at this number.
+// In a table, offsets of the store begin at this number.
 pub const STORE: u32 = 1 << 31;
 
-/// What a map's texts lie in.
+// What a map's texts lie in.
 #[derive(Clone, Copy, Debug, PartialEq, Eq)]
 pub enum Loan {
     Block,
@@ -36,7 +36,7 @@ pub struct Map {
 }
 
 impl Map {
-    /// An empty map with nothing lent.
+    // An empty map with nothing lent.
     pub fn new(alloc: Global) -> Self {
         Map {
             head: [0; 13],
@@ -46,7 +46,7 @@ impl Map {
         }
     }
 
-    /// Lends as many octets afresh.
+    // Lends as many octets afresh.
     pub fn lend(&mut self, block: usize, store: usize) -> Result<(), AllocError> {
         let alloc = *self.block.allocator();
         self.block = vec![in alloc; FRESH; block]?;
@@ -54,7 +54,7 @@ impl Map {
         Ok(())
     }
 
-    /// The octets of a loan from an offset to before another, as far as there are such.
+    // The octets of a loan from an offset to before another, as far as there are such.
     pub fn part(&self, loan: Loan, from: u64, to: u64) -> &[u8] {
         let octets = match loan {
             Loan::Block => self.block.as_slice(),
@@ -153,7 +153,7 @@ impl Map {
         ))
     }
 
-    /// The text that a call finds, which is lent the numbers of where it lies.
+    // The text that a call finds, which is lent the numbers of where it lies.
     fn found<F: FnOnce(&mut u64, &mut u64) -> u32>(&self, call: F) -> Result<Option<&[u8]>, Refusal>
         requires { F.IsAlwaysCallable call }
     {
@@ -163,52 +163,60 @@ impl Map {
     }
 
     pub fn value(&self, i: usize) -> Result<Option<&[u8]>, Refusal> {
-        let Map {
-            head,
-            table,
-            block,
-            store,
-        } = self;
         self.found(|from, to| {
-            abi::looking::bisquecrow_value(head, table, block, store, i, from, to)
+            abi::looking::bisquecrow_value(
+                &self.head,
+                &self.table,
+                &self.block,
+                &self.store,
+                i,
+                from,
+                to,
+            )
         })
     }
 
     pub fn key(&self, i: usize) -> Result<Option<&[u8]>, Refusal> {
-        let Map {
-            head,
-            table,
-            block,
-            store,
-        } = self;
-        self.found(|from, to| abi::looking::bisquecrow_key(head, table, block, store, i, from, to))
+        self.found(|from, to| {
+            abi::looking::bisquecrow_key(
+                &self.head,
+                &self.table,
+                &self.block,
+                &self.store,
+                i,
+                from,
+                to,
+            )
+        })
     }
 
     pub fn status(&self) -> Result<Option<&[u8]>, Refusal> {
-        let Map {
-            head,
-            table,
-            block,
-            store,
-        } = self;
         self.found(|from, to| {
-            abi::looking::bisquecrow_status(head, table, block, store, from, to)
+            abi::looking::bisquecrow_status(
+                &self.head,
+                &self.table,
+                &self.block,
+                &self.store,
+                from,
+                to,
+            )
         })
     }
 
     pub fn reason(&self) -> Result<Option<&[u8]>, Refusal> {
-        let Map {
-            head,
-            table,
-            block,
-            store,
-        } = self;
         self.found(|from, to| {
-            abi::looking::bisquecrow_reason(head, table, block, store, from, to)
+            abi::looking::bisquecrow_reason(
+                &self.head,
+                &self.table,
+                &self.block,
+                &self.store,
+                from,
+                to,
+            )
         })
     }
 
-    /// The number of the first field of a name from a field on.
+    // The number of the first field of a name from a field on.
     pub fn find(&self, name: &[u8], start: usize) -> Result<Option<u64>, Refusal> {
         let (mut number, mut from, mut to) = (0, 0, 0);
         let answer = abi::looking::bisquecrow_find(
@@ -258,7 +266,7 @@ impl Map {
         ))
     }
 
-    /// Whether the two say the same.
+    // Whether the two say the same.
     pub fn equals(&self, other: &Map) -> Result<bool, Refusal> {
         answers::truth(abi::telling::bisquecrow_equal(
             &self.head,
@@ -272,7 +280,7 @@ impl Map {
         ))
     }
 
-    /// Whether what this map begins goes on with the other.
+    // Whether the other goes on with what this one began.
     pub fn resumes(&self, other: &Map) -> Result<Verdict, Refusal> {
         Verdict::try_from(abi::telling::bisquecrow_resume(
             &self.head,
@@ -286,7 +294,7 @@ impl Map {
         ))
     }
 
-    /// Writes the map into an output: how much that is.
+    // Writes the map into an output: how much that is.
     pub fn write(&self, out: &mut [u8]) -> Result<u64, Refusal> {
         let mut count = 0;
         answers::done(abi::writing::bisquecrow_write(

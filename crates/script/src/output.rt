@@ -1,11 +1,11 @@
-//! What is printed. What a write fails on is lost, and the program goes on.
+// What is printed. What a write fails on is lost, and the program goes on.
 use crate::answers::{Refusal, Taken};
 use crate::octets::Hex;
 use std::fmt::Display;
 use std::io;
 use std::io::{BufWriter, Stdout, Write};
 
-/// How much is written at once.
+// How much is written at once.
 const CHUNK: usize = 65536;
 
 #[derive(Drop)]
@@ -31,7 +31,7 @@ impl Output {
         }
     }
 
-    /// What was done, by its name.
+    // What was done, by its name.
     pub fn say_done(&mut self, name: &str, done: Result<(), Refusal>) {
         self.say_result(done.map(|()| name))
     }
@@ -40,7 +40,7 @@ impl Output {
         self.say_result(truth.map(u8::from))
     }
 
-    /// What is known, or that it is not.
+    // What is known, or that it is not.
     pub fn say_known<T: Display + Drop>(&mut self, known: Result<Option<T>, Refusal>) {
         match known {
             Ok(None) => self.say("none"),
@@ -54,7 +54,7 @@ impl Output {
         self.say(format_args!(":{}", taken.taken))
     }
 
-    /// How much was written into an output, and all of the output.
+    // How much was written into an output, and all of the output.
     pub fn say_sheet(&mut self, written: Result<u64, Refusal>, sheet: &[u8]) {
         match written {
             Ok(count) => self.say(format_args!("{count}:{}", Hex(sheet))),

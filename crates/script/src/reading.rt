@@ -1,17 +1,17 @@
-//! What stands on a line from a place on: characters, numbers, flags, names, octets in hex.
+// What stands on a line from a place on: characters, numbers, flags, names, octets in hex.
 ghost use Rattle.std.specs.Prelude.{◌≡◌, ◌+◌, ◌≤◌, ◌↔◌, IsTrue, length, min};
 
 use crate::octets;
 use crate::octets::Octets;
 use std::fmt;
 
-/// How long a loan may be, and the octets of an argument.
+// How long a loan may be, and the octets of an argument.
 pub const LOAN: usize = 70000;
 
-/// The letters of the longest name.
+// The letters of the longest name.
 const NAME: usize = 8;
 
-/// A line makes no sense at a column, the first being 1.
+// A line makes no sense at a column, the first being 1.
 #[derive(Clone, Copy, Debug, PartialEq, Eq)]
 pub struct Nonsense {
     column: usize,
@@ -23,7 +23,7 @@ impl fmt::Display for Nonsense {
     }
 }
 
-/// A place on a line.
+// A place on a line.
 #[derive(Clone, Copy, Debug)]
 pub struct Cursor<'a> {
     line: &'a [u8],
@@ -36,7 +36,7 @@ impl<'a> Cursor<'a> {
         Cursor { line, at: 0 }
     }
 
-    /// How far from the start of the line this is.
+    // How far from the start of the line this is.
     pub fn at(&self) -> usize {
         self.at
     }
@@ -47,12 +47,12 @@ impl<'a> Cursor<'a> {
         self.at == self.line.len()
     }
 
-    /// Whether a word ends here.
+    // Whether a word ends here.
     pub fn is_behind_word(&self) -> bool {
         self.rest().first().is_none_or(|x| *x == b' ')
     }
 
-    /// That the line makes no sense here.
+    // That the line makes no sense here.
     pub fn nonsense(&self) -> Nonsense {
         Nonsense {
             column: self.at + 1,
@@ -65,7 +65,7 @@ impl<'a> Cursor<'a> {
         &self.line[self.at..]
     }
 
-    /// Moves on by so many characters, or to the end of the line, and answers them.
+    // Moves on by so many characters, or to the end of the line, and answers them.
     pub fn take(&mut self, n: usize) -> &'a [u8]
         ensures moved { self.new.at ≡ min (self.old.at + n) (length self.old.line.now) }
         ensures same { self.new.line.now ≡ self.old.line.now }
@@ -76,7 +76,7 @@ impl<'a> Cursor<'a> {
         &rest[..n]
     }
 
-    /// Takes a character that has to stand here.
+    // Takes a character that has to stand here.
     pub fn expect(&mut self, character: u8) -> Result<(), Nonsense> {
         if self.rest().first() != Some(&character) {
             return Err(self.nonsense());
@@ -85,21 +85,20 @@ impl<'a> Cursor<'a> {
         Ok(())
     }
 
-    /// The letters and what else stands before a space.
+    // The letters and what else stands before a space.
     pub fn word(&mut self) -> &'a [u8] {
         let n = self.rest().iter().take_while(|x| **x != b' ').count();
         self.take(n)
     }
 
-    /// The letters that stand here, as many as a name can have.
+    // The letters that stand here, as many as a name can have.
     pub fn name(&mut self) -> &'a [u8] {
         let letters = self.rest().iter().take_while(|x| x.is_ascii_alphabetic());
         let n = letters.count().min(NAME);
         self.take(n)
     }
 
-    /// A decimal number.
-    pub fn number(&mut self) -> Result<usize, Nonsense> {
+    fn number(&mut self) -> Result<usize, Nonsense> {
         let rest = self.rest();
         if !rest.first().is_some_and(u8::is_ascii_digit) {
             return Err(self.nonsense());
@@ -115,7 +114,13 @@ impl<'a> Cursor<'a> {
         Ok(number)
     }
 
-    /// Takes a character that has a meaning.
+    // A decimal number behind a character that has to stand here.
+    pub fn number_behind(&mut self, character: u8) -> Result<usize, Nonsense> {
+        self.expect(character)?;
+        self.number()
+    }
+
+    // Takes a character that has a meaning.
     pub fn one_of<T, F: FnOnce(u8) -> Option<T>>(&mut self, meaning: F) -> Result<T, Nonsense>
         requires { F.IsAlwaysCallable meaning }
     {
@@ -133,7 +138,7 @@ impl<'a> Cursor<'a> {
         })
     }
 
-    /// Octets in hex, or `-` for none.
+    // Octets in hex, or `-` for none.
     pub fn octets(&mut self) -> Result<Octets<'a>, Nonsense> {
         if self.expect(b'-').is_ok() {
             return Ok(Octets(&[]));

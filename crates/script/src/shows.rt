@@ -1,9 +1,9 @@
-//! How a map and its loans are printed.
+// How a map and its loans are printed.
 use crate::map::{FRESH, Loan, Map, STORE};
 use crate::octets::Hex;
 use std::fmt;
 
-/// A text: where it lies, and its octets.
+// A text: where it lies, and its octets.
 #[derive(Clone, Copy, Debug)]
 struct Text<'a> {
     loan: Loan,
@@ -32,7 +32,7 @@ impl Map {
         }
     }
 
-    /// The text that two numbers of a table say.
+    // The text that two numbers of a table say.
     fn text_at(&self, from: u32, to: u32) -> Text<'_> {
         match from.checked_sub(STORE) {
             None => self.text(Loan::Block, u64::from(from), u64::from(to)),
@@ -50,7 +50,7 @@ impl Map {
     }
 }
 
-/// Phase, edited, count, line, mark, status, and the texts of the fields: before the first `,`, before a value `:`, before another key `;`.
+// Phase, edited, count, line, mark, status, and the texts of the fields: before the first `,`, before a value `:`, before another key `;`.
 impl fmt::Display for Map {
     fn fmt<W: fmt::Write>(&self, f: &mut fmt::Formatter<W>) -> fmt::Result {
         let phase = if self.head[12] == 1 { 'R' } else { 'D' };
@@ -76,7 +76,7 @@ impl fmt::Display for Map {
     }
 }
 
-/// The octets of the loans up to limit and room, and whether any past them changed.
+// The octets of the loans up to limit and room, and whether any past them changed.
 #[derive(Clone, Copy)]
 pub struct Loans<'a> {
     pub map: &'a Map,
@@ -84,7 +84,7 @@ pub struct Loans<'a> {
     pub room: usize,
 }
 
-/// A loan up to an octet, and what lies behind.
+// A loan up to an octet, and what lies behind.
 fn split(loan: &[u8], at: usize) -> (&[u8], &[u8]) {
     loan.split_at(at.min(loan.len()))
 }

@@ -1,4 +1,4 @@
-//! A walker over the records of a file, in numbers. The header that it reads is a map.
+// A walker over the records of a file, in numbers. The header that it reads is a map.
 use crate::answers;
 use crate::answers::{Refusal, Step, Taken};
 use crate::map::Map;
@@ -9,7 +9,7 @@ pub struct Walker {
 }
 
 impl Walker {
-    /// One that has ended.
+    // One that has ended.
     pub fn new() -> Self {
         Walker {
             trail: [0, 0, 0, 7],
@@ -28,7 +28,7 @@ impl Walker {
         ))
     }
 
-    /// One call on a piece.
+    // One call on a piece.
     pub fn walk(&mut self, map: &mut Map, piece: &[u8]) -> Taken<Step> {
         let mut taken = 0;
         let mut record = [0; 4];
@@ -48,7 +48,7 @@ impl Walker {
         }
     }
 
-    /// Says that the file has ended.
+    // Says that the file has ended.
     pub fn end(&mut self, map: &mut Map) -> Result<Step, Refusal> {
         let answer = abi::walking::bisquecrow_end(
             &mut self.trail,

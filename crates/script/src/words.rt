@@ -1,4 +1,4 @@
-//! The words of a line, with their arguments.
+// The words of a line, with their arguments.
 ghost use Rattle.std.specs.Prelude.{◌-◌, length};
 ghost use Rattle.std.specs.Iterator.{at_most};
 
@@ -6,17 +6,17 @@ use crate::damages::Damage;
 use crate::octets::Octets;
 use crate::reading::{Cursor, LOAN, Nonsense};
 
-/// How long an output may be: two arguments.
+// How long an output may be: two arguments.
 const OUTPUT: usize = 140000;
 
-/// Whether a block awaits a status, and whether quirks are read.
+// Whether a block awaits a status, and whether quirks are read.
 #[derive(Clone, Copy, Debug)]
 pub struct Flags {
     pub awaits: bool,
     pub quirks: bool,
 }
 
-/// What a map begins with: the flags, limit and room, and how long its loans are.
+// What a map begins with: the flags, limit and room, and how long its loans are.
 #[derive(Clone, Copy, Debug)]
 pub struct Begin {
     pub flags: Flags,
@@ -71,11 +71,10 @@ impl Flags {
 }
 
 fn number(line: &mut Cursor<'_>) -> Result<usize, Nonsense> {
-    line.expect(b' ')?;
-    line.number()
+    line.number_behind(b' ')
 }
 
-/// A number up to another. It is too large for what stands behind it.
+// A number up to another: a larger one makes no sense at its end.
 fn length(line: &mut Cursor<'_>, most: usize) -> Result<usize, Nonsense> {
     let n = number(line)?;
     if n <= most {
@@ -91,7 +90,7 @@ fn octets<'a>(line: &mut Cursor<'a>) -> Result<Octets<'a>, Nonsense> {
 }
 
 impl Begin {
-    /// Loans that are too long make no sense behind both lengths.
+    // Loans that are too long make no sense at the end of the last number.
     fn read(line: &mut Cursor<'_>) -> Result<Self, Nonsense> {
         let begin = Begin {
             flags: Flags::read(line)?,
@@ -107,7 +106,7 @@ impl Begin {
     }
 }
 
-/// The letters of a word: two of a walker's, or what stands before a space.
+// The letters of a word: those of a walker's words whatever stands behind them, else all up to a space.
 fn letters<'a>(line: &mut Cursor<'a>) -> &'a [u8] {
     match line.rest() {
         [b'w', b's' | b'f' | b'F', ..] => line.take(2),
@@ -116,7 +115,7 @@ fn letters<'a>(line: &mut Cursor<'a>) -> &'a [u8] {
 }
 
 impl<'a> Word<'a> {
-    /// A room that is too large makes no sense behind the position.
+    // A room that is too large makes no sense at the end of the position.
     fn walker(line: &mut Cursor<'a>) -> Result<Self, Nonsense> {
         let room = number(line)?;
         let position = number(line)?;
@@ -126,7 +125,7 @@ impl<'a> Word<'a> {
         Ok(Word::Walker(room, position as u64))
     }
 
-    /// A word by its letters, with its arguments. Those of a walker are an octet each too.
+    // A word by its letters, with its arguments. The octets 1, 2 and 3 alone are a walker's words too.
     fn named(line: &mut Cursor<'a>) -> Result<Self, Nonsense> {
         let unknown = line.nonsense();
         Ok(match letters(line) {
@@ -164,7 +163,7 @@ impl<'a> Word<'a> {
         })
     }
 
-    /// A word with nothing right behind it.
+    // A word that ends where its arguments do.
     fn read(line: &mut Cursor<'a>) -> Result<Self, Nonsense> {
         let word = Word::named(line)?;
         if line.is_behind_word() {
@@ -175,7 +174,7 @@ impl<'a> Word<'a> {
     }
 }
 
-/// The words of a line.
+// The words of a line.
 #[derive(Drop)]
 pub struct Words<'a> {
     line: Cursor<'a>,
