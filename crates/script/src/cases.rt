@@ -67,8 +67,8 @@ impl Case {
             Word::StatusCode => out.say_known(map.status_code()),
             Word::RecordType => out.say_known(map.record_type()),
             Word::Clean => out.say_truth(map.is_clean()),
-            Word::Write(n) => self.write(n, out)?,
-            Word::Rebuild(n) => self.rebuild(n, out)?,
+            Word::Write(n) => write(alloc, n, |sheet| map.write(sheet), out)?,
+            Word::Rebuild(n) => write(alloc, n, |sheet| map.rebuild(sheet), out)?,
             Word::Keep => {
                 self.kept = map.clone()?;
                 out.say("K")
@@ -117,22 +117,10 @@ impl Case {
         self.map.lend(block, store)
     }
 
-    // Writes into an output that is blank, and shows all of it.
-    fn write(&self, n: usize, out: &mut Output) -> Result<(), AllocError> {
-        let mut sheet = vec![in self.alloc; BLANK; n]?;
-        out.say_sheet(self.map.write(&mut sheet), &sheet);
-        Ok(())
-    }
-
-    fn rebuild(&self, n: usize, out: &mut Output) -> Result<(), AllocError> {
-        let mut sheet = vec![in self.alloc; BLANK; n]?;
-        out.say_sheet(self.map.rebuild(&mut sheet), &sheet);
-        Ok(())
-    }
-
     // Calls the walker on a piece until it is taken, or the walker stops or ends, or takes nothing of the whole.
     fn walk(&mut self, piece: &[u8], out: &mut Output) {
         let mut rest = piece;
+        // A call may take nothing, so the piece does not say how many there are.
         for _ in 0..u64::MAX {
             let step = self.walker.walk(&mut self.map, rest);
             let (body, behind) = rest.split_at(rest.len().min(step.taken as usize));
@@ -148,6 +136,20 @@ impl Case {
             rest = behind;
         }
     }
+}
+
+// Has so many octets written into that are blank, and shows all of them.
+fn write<F: FnOnce(&mut [u8]) -> Result<u64, Refusal>>(
+    alloc: Global,
+    n: usize,
+    call: F,
+    out: &mut Output,
+) -> Result<(), AllocError>
+    requires { F.IsAlwaysCallable call }
+{
+    let mut sheet = vec![in alloc; BLANK; n]?;
+    out.say_sheet(call(&mut sheet), &sheet);
+    Ok(())
 }
 
 // What is shown of a text: no octets where there are none to show.
