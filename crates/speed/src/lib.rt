@@ -1,8 +1,6 @@
 // What the benchmarks time: the library's calls, over and over, for a driver in another language to link.
 #![tactic(auto)]
 
-ghost use Rattle.std.specs.Prelude.{◌<◌, ◌≤◌};
-
 use leaves::refusals::Refusal;
 use line_reader::Answer;
 use maps::HeaderMap;
@@ -24,10 +22,9 @@ pub extern "C" fn speed_read(
         taken: 0,
         answer: Ok(Answer::More),
     };
-    let mut at = 0;
-    let mut i = 0;
-    while i < pieces {
-        if at == 0 {
+    let mut rest = text;
+    for _ in 0..pieces {
+        if rest.len() == text.len() {
             let made = reader::begin(
                 f.map,
                 maps::DEFAULT_LIMIT,
@@ -40,26 +37,17 @@ pub extern "C" fn speed_read(
             let m = made.map;
             f.map = m;
         }
-        if cut < text.len() - at {
-            let e = at + cut;
-            f = reader::feed(f.map, block, store, &text[at..e]);
-            at = e;
-            i += 1;
-        } else {
-            f = reader::feed(f.map, block, store, &text[at..]);
-            at = 0;
-            i += 1;
-        }
+        let (piece, more) = rest.split_at(cut.min(rest.len()));
+        f = reader::feed(f.map, block, store, piece);
+        rest = if more.is_empty() { text } else { more };
     }
-    let last = f.map;
-    last.fields
+    f.map.fields
 }
 
 // The map of a text, read whole.
 fn map_of(block: &mut [u8], store: &mut [u8], text: &[u8]) -> HeaderMap {
-    let new = HeaderMap::new();
-    let made = reader::begin(
-        new,
+    let begun = reader::begin(
+        HeaderMap::new(),
         maps::DEFAULT_LIMIT,
         maps::LARGEST,
         true,
@@ -67,9 +55,7 @@ fn map_of(block: &mut [u8], store: &mut [u8], text: &[u8]) -> HeaderMap {
         block,
         store,
     );
-    let begun = made.map;
-    let fed = reader::feed(begun, block, store, text);
-    fed.map
+    reader::feed(begun.map, block, store, text).map
 }
 
 fn length_found<'a>(
@@ -77,16 +63,10 @@ fn length_found<'a>(
     m: HeaderMap,
     block: &'a [u8],
     store: &'a [u8],
-) -> usize
-    ensures { result < 1024 }
-{
+) -> usize {
     match found {
-        Ok(Some(i)) => {
-            let v = lookups::value(m, block, store, i);
-            v.len() % 1024
-        }
-        Ok(None) => 0,
-        Err(e) => 0,
+        Ok(Some(i)) => lookups::value(m, block, store, i).len() % 1024,
+        _ => 0,
     }
 }
 
@@ -101,11 +81,9 @@ pub extern "C" fn speed_find(
 ) -> usize {
     let m = map_of(block, store, text);
     let mut sum = 0;
-    let mut i = 0;
-    while i < times {
+    for _ in 0..times {
         let found = lookups::find(m, block, store, name, 0);
-        sum = (sum + length_found(found, m, block, store)) % 65536;
-        i += 1;
+        sum = length_found(found, m, block, store).wrapping_add(sum) % 65536;
     }
     sum
 }
@@ -122,12 +100,8 @@ pub extern "C" fn speed_set(
 ) -> usize {
     let m = map_of(block, store, text);
     let mut fields = 0;
-    let mut i = 0;
-    while i < times {
-        let e = edits::set(m, block, store, key, value);
-        let k = e.map;
-        fields = k.fields;
-        i += 1;
+    for _ in 0..times {
+        fields = edits::set(m, block, store, key, value).map.fields;
     }
     fields
 }
@@ -144,14 +118,10 @@ pub extern "C" fn speed_append(
 ) -> usize {
     let m = map_of(block, store, text);
     let mut fields = 0;
-    let mut i = 0;
-    while i < times {
-        let e = edits::append(m, block, store, key, value);
-        let longer = e.map;
-        let d = edits::remove(longer, block, store, key);
-        let k = d.map;
-        fields = k.fields;
-        i += 1;
+    for _ in 0..times {
+        let longer = edits::append(m, block, store, key, value);
+        let shorter = edits::remove(longer.map, block, store, key);
+        fields = shorter.map.fields;
     }
     fields
 }
@@ -167,39 +137,14 @@ pub extern "C" fn speed_write(
     out: &mut [u8],
 ) -> usize {
     let m = map_of(block, store, text);
-    let mut i = 0;
-    while i < times {
+    for _ in 0..times {
         if rebuilt {
-            let w = writes::rebuild(m, block, store, out);
-            i += 1;
+            writes::rebuild(m, block, store, out);
         } else {
-            let w = writes::write(m, block, store, out);
-            i += 1;
+            writes::write(m, block, store, out);
         }
     }
     m.fields
-}
-
-// Where a piece of cut octets from a place on ends.
-fn ahead(at: usize, cut: usize, n: usize) -> usize
-    requires { at ≤ n }
-    ensures { (at ≤ result) × (result ≤ n) }
-{
-    if cut < n - at {
-        return at + cut;
-    }
-    n
-}
-
-// The place behind what was taken, the beginning again at the end.
-fn behind(at: usize, taken: usize, n: usize) -> usize
-    requires { at ≤ n }
-    ensures { result ≤ n }
-{
-    if taken < n - at {
-        return at + taken;
-    }
-    0
 }
 
 // Walks over the records of a file, again and again, in pieces of at most cut octets, with so many calls; answers how many octets were taken.
@@ -211,19 +156,16 @@ pub extern "C" fn speed_walk(
     store: &mut [u8],
     file: &[u8],
 ) -> u64 {
-    let new = HeaderMap::new();
-    let started = walker::start(new, maps::LARGEST, 0, block, store);
-    let mut w = started.walker;
-    let mut total: u64 = 0;
+    let mut w = walker::start(HeaderMap::new(), maps::LARGEST, 0, block, store).walker;
+    let mut total = 0u64;
+    // A place, and not the rest of the file: with that the compiler copies the map once more for each call, which took a sixth longer.
     let mut at = 0;
-    let mut i = 0;
-    while i < calls {
-        i += 1;
-        let e = ahead(at, cut, file.len());
-        let r = walker::walk(w, block, store, &file[at..e]);
+    for _ in 0..calls {
+        let Some(rest) = file.get(at..) else { break };
+        let r = walker::walk(w, block, store, &rest[..cut.min(rest.len())]);
         let taken = r.taken;
-        at = behind(at, taken, file.len());
-        total = std::num::wrapping_add_u64(total, taken as u64);
+        at = if taken < rest.len() { at + taken } else { 0 };
+        total = total.wrapping_add(taken as u64);
         w = r.walker;
     }
     total
