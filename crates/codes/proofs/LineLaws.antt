@@ -1,7 +1,6 @@
 -- Laws of the code and the reason of a status line's text. Assumes nothing.
-use Rattle.leaves.specs.declared.refusals.Refusal.{Refusal}
-use Rattle.std.specs.Prelude.{None, Ok, Option, Result, Some}
-use mathlib.Core.Path.{◌≡◌, refl, ap, ◌∙◌}
+use Rattle.std.specs.Prelude.{None, Option, Some}
+use mathlib.Core.Path.{◌≡◌, refl, ◌∙◌}
 use mathlib.Core.Bool.{Bool, true, false}
 use mathlib.Core.List.{List, [], ◌∷◌}
 use Prim.Native.Nat.{ℕ, ◌+◌, ◌-◌, ◌≤◌, ◌<◌, min}

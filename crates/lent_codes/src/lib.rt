@@ -41,7 +41,7 @@ fn find<'a>(
     ensures { result ≡ finding (map_in t.now h) block.now store.now name.now 0 }
 {
     lent::check_done(h, t, block, store)?;
-    tables::find(t, h.fields, block, store, name, 0)
+    Ok(tables::find(t, h.fields, block, store, name, 0))
 }
 
 // The value of a field that was found: its map is judged already.
