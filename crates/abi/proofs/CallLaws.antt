@@ -1,6 +1,6 @@
 -- What the exported calls give, by what the calls below give. Assumes nothing.
 use Rattle.std.specs.Prelude.{Err, None, Ok, Option, Result, Some}
-use mathlib.Core.Path.{◌≡◌, refl, sym, ap, ◌∙◌}
+use mathlib.Core.Path.{◌≡◌, refl, sym, ap, ◌∙◌, subst}
 use mathlib.Core.Bool.{Bool, true, false}
 use mathlib.Core.List.{List, []}
 use Prim.Native.Nat.{ℕ, zero, suc, ◌+◌, ◌-◌, ◌≤◌, ◌<◌}
@@ -190,6 +190,10 @@ module _ (t : List ℕ) (h : Head) (k f e : ℕ) (found : Option ℕ) where
 
   pub seen_missing : found ≡ None → Sees (seen_at (map_in t h) k f e (Ok found)) 68 k f e
   seen_missing q = rw q (record { number = refl; place = record { answer = refl; from = refl; to = refl } })
+
+-- what was seen with a head is so with what the head is
+pub seen_of : (t : List ℕ) {h g : Head} → h ≡ g → (k f e : ℕ) (found : Option ℕ) {r k' f' e' : ℕ} → Sees (seen_at (map_in t h) k f e (Ok found)) r k' f' e' → Sees (seen_at (map_in t g) k f e (Ok found)) r k' f' e'
+seen_of t q k f e found {r} {k'} {f'} {e'} s = subst (λ (x : Head). Sees (seen_at (map_in t x) k f e (Ok found)) r k' f' e') q s
 
 -- a map whose first checks passed: its fields and its status
 module _ (n t b s : List ℕ) (o : Ok tt ≡ open_for n t b s) where
