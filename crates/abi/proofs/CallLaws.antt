@@ -1,6 +1,6 @@
 -- What the exported calls give, by what the calls below give. Assumes nothing.
 use Rattle.std.specs.Prelude.{Err, None, Ok, Option, Result, Some}
-use mathlib.Core.Path.{◌≡◌, refl, sym, ap, ◌∙◌}
+use mathlib.Core.Path.{◌≡◌, refl, sym, ap, ◌∙◌, subst}
 use mathlib.Core.Bool.{Bool, true, false}
 use mathlib.Core.List.{List, []}
 use Prim.Native.Nat.{ℕ, zero, suc, ◌+◌, ◌-◌, ◌≤◌, ◌<◌}
@@ -135,7 +135,7 @@ module _ (n t b s : List ℕ) where
     sees_by : (c : Bool) → sound_map n t ≡ c → (x : Refusal) (r : ℕ) → Err x ≡ open_for n t b s → r ≡ number x → Sees (find_sees n t k f e b s name from) r k f e
     unfolding find_sees finding
     sees_by true h x r o q =
-        let c : finding (map_of n t) b s name from ≡ Err x = refused_by Err (seeking (named b s name) from (drop from (live (map_of n t)))) (checked_done (map_of n t) b s) x (o ∙ open_sound h) in
+        let c : finding (map_of n t) b s name from ≡ Err x = refused_by Err (Ok (seeking (named b s name) from (drop from (live (map_of n t))))) (checked_done (map_of n t) b s) x (o ∙ open_sound h) in
         refused_in x r q (find_sees n t k f e b s name from) (seen h ∙ ap (seen_at (map_of n t) k f e) c)
     sees_by false h x r o q =
         let w : Err x ≡ Err BadMap = o ∙ open_damaged h in
@@ -145,12 +145,12 @@ module _ (n t b s : List ℕ) where
     pub sees_refused : (x : Refusal) (r : ℕ) → Err x ≡ open_for n t b s → r ≡ number x → Sees (find_sees n t k f e b s name from) r k f e
     sees_refused x r o q = sees_by (sound_map n t) refl x r o q
 
-    pub sees_fine : (found : Result (Option ℕ) Refusal) (r k' f' e' : ℕ) → Ok tt ≡ open_for n t b s → found ≡ seeking (named b s name) from (drop from (live (map_of n t)))
-        → Sees (seen_at (map_of n t) k f e found) r k' f' e' → Sees (find_sees n t k f e b s name from) r k' f' e'
+    pub sees_fine : (found : Option ℕ) (r k' f' e' : ℕ) → Ok tt ≡ open_for n t b s → found ≡ seeking (named b s name) from (drop from (live (map_of n t)))
+        → Sees (seen_at (map_of n t) k f e (Ok found)) r k' f' e' → Sees (find_sees n t k f e b s name from) r k' f' e'
     unfolding finding
     sees_fine found r k' f' e' o q h =
         let w = opens o in
-        let c : finding (map_of n t) b s name from ≡ found = goes_on Err (seeking (named b s name) from (drop from (live (map_of n t)))) (checked_done (map_of n t) b s) w.fine ∙ sym q in
+        let c : finding (map_of n t) b s name from ≡ Ok found = goes_on Err (Ok (seeking (named b s name) from (drop from (live (map_of n t))))) (checked_done (map_of n t) b s) w.fine ∙ ap Ok (sym q) in
         rw (seen w.sound ∙ ap (seen_at (map_of n t) k f e) c) h
 
 pub told_damaged : (o : Told) (k : ℕ) (c : Bool) → c ≡ false → Tells (when c then o else tells_damaged k) 3 k
@@ -173,26 +173,27 @@ below_by p t n zero i e h = tt
 below_by p t n (suc k) i e h =
     let l : i < 256 = omega (arith, e, h) in
     let d : k ≡ n - (i + 1) = omega (arith, e) in
-    by_if Below (p (field_at t i)) (Ok (Some i)) (seeking p (i + 1) (fields_from t (i + 1) k)) (λ _. l) (λ _. below_by p t n k (i + 1) d h)
+    by_if Below (p (field_at t i)) (Some i) (seeking p (i + 1) (fields_from t (i + 1) k)) (λ _. l) (λ _. below_by p t n k (i + 1) d h)
 
 pub seek_below : (p : Field → Bool) (t : List ℕ) (n i : ℕ) → n ≤ 256 → Below (seeking p i (fields_from t i (n - i)))
 seek_below p t n i h = below_by p t n (n - i) i refl h
 
 -- the field that was found
-pub found_few : (found : Result (Option ℕ) Refusal) (i : ℕ) → found ≡ Ok (Some i) → Below found → i < 256
+pub found_few : (found : Option ℕ) (i : ℕ) → found ≡ Some i → Below found → i < 256
 found_few found i q b = rw q at b
 
-module _ (t : List ℕ) (h : Head) (k f e : ℕ) (found : Result (Option ℕ) Refusal) where
-  pub seen_found : (i : ℕ) (x : Field) (r f' e' : ℕ) → found ≡ Ok (Some i) → Below found → x ≡ field_at t i → Lies (place_lies x.value) r f' e' → Sees (seen_at (map_in t h) k f e found) r i f' e'
+module _ (t : List ℕ) (h : Head) (k f e : ℕ) (found : Option ℕ) where
+  pub seen_found : (i : ℕ) (x : Field) (r f' e' : ℕ) → found ≡ Some i → Below found → x ≡ field_at t i → Lies (place_lies x.value) r f' e' → Sees (seen_at (map_in t h) k f e (Ok found)) r i f' e'
   seen_found i x r f' e' q b w l =
       let v : Lies (place_lies (field_at t i).value) r f' e' = rw w at l in
       rw (q, fields_at t 256 i (found_few found i q b)) (record { number = refl; place = v })
 
-  pub seen_missing : found ≡ Ok None → Sees (seen_at (map_in t h) k f e found) 68 k f e
+  pub seen_missing : found ≡ None → Sees (seen_at (map_in t h) k f e (Ok found)) 68 k f e
   seen_missing q = rw q (record { number = refl; place = record { answer = refl; from = refl; to = refl } })
 
-  pub seen_refused : (x : Refusal) (r : ℕ) → found ≡ Err x → r ≡ number x → Sees (seen_at (map_in t h) k f e found) r k f e
-  seen_refused x r q d = rw q (record { number = refl; place = record { answer = d; from = refl; to = refl } })
+-- what was seen with a head is so with what the head is
+pub seen_of : (t : List ℕ) {h g : Head} → h ≡ g → (k f e : ℕ) (found : Option ℕ) {r k' f' e' : ℕ} → Sees (seen_at (map_in t h) k f e (Ok found)) r k' f' e' → Sees (seen_at (map_in t g) k f e (Ok found)) r k' f' e'
+seen_of t q k f e found {r} {k'} {f'} {e'} s = subst (λ (x : Head). Sees (seen_at (map_in t x) k f e (Ok found)) r k' f' e') q s
 
 -- a map whose first checks passed: its fields and its status
 module _ (n t b s : List ℕ) (o : Ok tt ≡ open_for n t b s) where

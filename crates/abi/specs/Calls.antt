@@ -344,10 +344,9 @@ pub record Sees (o : Sight) (r k f e : ℕ) : Type 0 where
   pub place : Lies o.place r f e
 
 -- a field that a table has
-abbrev pub Below : Result (Option ℕ) Refusal → Type 0
-Below (Ok (Some i)) = i < 256
-Below (Ok None) = Unit {0}
-Below (Err x) = Unit {0}
+abbrev pub Below : Option ℕ → Type 0
+Below (Some i) = i < 256
+Below None = Unit {0}
 
 abbrev pub seen_at : HeaderMap → ℕ → ℕ → ℕ → Result (Option ℕ) Refusal → Sight
 seen_at m k f e (Ok (Some i)) = record { number = i; place = place_lies (get_or m.table i no_field).value }

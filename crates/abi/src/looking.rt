@@ -1,12 +1,11 @@
 // Find, value, key, status and reason; how many fields there are.
-ghost use Rattle.std.specs.Prelude.{◌≡◌, length, ◌≤◌};
+ghost use Rattle.std.specs.Prelude.{◌≡◌, length, ◌≤◌, Ok};
 ghost use Rattle.lent.specs.Table.{map_in};
 ghost use Rattle.lookups.specs.Lookups.{status_in};
 ghost use Rattle.abi.specs.Calls.{Tells, fields_tell, Below, Sees, seen_at, find_sees, Lies, place_lies, handed_lies, value_lies, key_lies, status_lies, shifted, reason_of, reason_lies};
 
 use crate::{answers, opening};
 use codes::line;
-use leaves::refusals::Refusal;
 use lent::{heads, tables};
 use maps::{Head, Place};
 
@@ -49,7 +48,7 @@ fn put_place(p: Place, from: &mut u64, to: &mut u64) -> u32
 
 // Hands out the number of a field that was found, and its value's place.
 fn put_found(
-    found: Result<Option<usize>, Refusal>,
+    found: Option<usize>,
     h: Head,
     table: &[u32],
     number: &mut u64,
@@ -57,17 +56,15 @@ fn put_found(
     to: &mut u64,
 ) -> u32
     requires { (length table.now ≡ 1024) × Below found }
-    ensures { Sees (seen_at (map_in table.now h) number.old from.old to.old found) result number.new from.new to.new }
+    ensures { Sees (seen_at (map_in table.now h) number.old from.old to.old (Ok found)) result number.new from.new to.new }
 {
     match found {
-        Ok(Some(i)) => {
+        Some(i) => {
             *number = i as u64;
-            let f = tables::field_at(table, i);
-            let p = f.value;
-            put_place(p, from, to)
+            let field = tables::field_at(table, i);
+            put_place(field.value, from, to)
         }
-        Ok(None) => answers::MISSING,
-        Err(e) => answers::refused(e),
+        None => answers::MISSING,
     }
 }
 

@@ -38,8 +38,11 @@ abbrev pub with_fields : HeaderMap → List Field → ℕ → Bool → HeaderMap
 with_fields m xs mark edited = remade m (lay m.table xs) (length xs) m.status mark edited
 
 -- a refused edit leaves "all": "map and lent memory keep their contents"
+abbrev pub left : HeaderMap → Refusal → Edited
+left m x = record { answer = Err x; map = m }
+
 abbrev pub refusing : HeaderMap → List ℕ → List ℕ → Refusal → Given Edited
-refusing m b s x = record { result = record { answer = Err x; map = m }; block = b; store = s }
+refusing m b s x = record { result = left m x; block = b; store = s }
 
 -- an edit is done: it gives the map n, and the store became z
 abbrev pub done : HeaderMap → List ℕ → List ℕ → Given Edited

@@ -6,7 +6,7 @@ ghost use Rattle.leaves.specs.Paste.{pasted};
 ghost use Rattle.leaves.specs.Sanitise.{sanitised};
 ghost use Rattle.maps.specs.Good.{checked_done};
 ghost use Rattle.maps.specs.Maps.{Is};
-ghost use Rattle.edits.specs.Edits.{new_field, planned, putting, removing, setting, appending, statusing};
+ghost use Rattle.edits.specs.Edits.{left, new_field, planned, putting, removing, setting, appending, statusing};
 
 use leaves::refusals::Refusal;
 use leaves::sanitise;
@@ -14,45 +14,49 @@ use maps::{Field, HeaderMap};
 
 mod tables;
 
+// An edit's answer and the map that it leaves: the map as it was if it is refused.
 #[derive(Clone, Copy)]
 pub struct Edited {
     pub answer: Result<(), Refusal>,
     pub map: HeaderMap,
 }
 
+fn refused(m: HeaderMap, e: Refusal) -> Edited
+    ensures { result ≡ left m e }
+{
+    Edited {
+        answer: Err(e),
+        map: m,
+    }
+}
+
 // Whether a map is edited once k of its n fields stay.
 pub fn changed(e: bool, k: usize, n: usize) -> bool
     ensures { result ≡ (e || ltb k n) }
 {
-    if e { true } else { k < n }
+    e || k < n
 }
 
 // Drops every field whose key is the sanitised key.
 pub fn remove<'a>(m: HeaderMap, block: &'a [u8], store: &'a [u8], key: &[u8]) -> Edited
     ensures { Is (removing m block.now store.now key.now) result block.now store.now }
 {
-    let s = maps::check_done(m, block, store);
-    match s {
+    match maps::check_done(m, block, store) {
         Ok(()) => {
-            let t = m.table;
-            let n = m.fields;
-            let kept = tables::compact(t, 0, n, block, store, key);
+            let kept = tables::compact(m.table, 0, m.fields, block, store, key);
             let table = kept.table;
-            let fields = kept.n;
-            let edited = changed(m.edited, fields, n);
             let map = HeaderMap {
                 table,
-                fields,
-                edited,
+                fields: kept.n,
+                edited: changed(m.edited, kept.n, m.fields),
                 ..m
             };
-            let answer = Ok(());
-            Edited { answer, map }
+            Edited {
+                answer: Ok(()),
+                map,
+            }
         }
-        Err(x) => {
-            let answer = Err(x);
-            Edited { answer, map: m }
-        }
+        Err(e) => refused(m, e),
     }
 }
 
@@ -71,10 +75,7 @@ fn new_field(mark: usize, k: usize, v: usize) -> Field
 fn fit(free: usize, k: usize, v: usize) -> bool
     ensures { result ≡ leb (k + v) free }
 {
-    if k <= free {
-        return v <= free - k;
-    }
-    false
+    k <= free && v <= free - k
 }
 
 // Writes the sanitised key and then the sanitised value at the mark.
@@ -99,15 +100,16 @@ pub fn plan_put(
     requires { (mark ≤ room) × (room ≤ 65536) }
     ensures { result ≡ planned at mark room (sanitised true key.now) (sanitised false value.now) }
 {
-    if at < maps::FIELDS {
-        let k = sanitise::sanitised_length(key, true);
-        let v = sanitise::sanitised_length(value, false);
-        if fit(room - mark, k, v) {
-            return Ok(new_field(mark, k, v));
-        }
-        return Err(Refusal::StoreFull);
+    if at >= maps::FIELDS {
+        return Err(Refusal::FieldsFull);
     }
-    Err(Refusal::FieldsFull)
+    let k = sanitise::sanitised_length(key, true);
+    let v = sanitise::sanitised_length(value, false);
+    if fit(room - mark, k, v) {
+        Ok(new_field(mark, k, v))
+    } else {
+        Err(Refusal::StoreFull)
+    }
 }
 
 // The new key and value become the field number at, and later fields of that key go.
@@ -122,31 +124,24 @@ fn put_at<'a>(
     requires { (Ok tt ≡ checked_done m block.now store.old) × (at ≤ m.fields) }
     ensures { Is (putting m block.now store.old at key.now value.now) result block.now store.new }
 {
-    let planned = plan_put(at, m.mark, m.room, key, value);
-    match planned {
-        Ok(f) => {
-            let t = m.table;
-            let kept = tables::put(t, m.fields, at, f, block, store, key);
+    match plan_put(at, m.mark, m.room, key, value) {
+        Ok(field) => {
+            let kept = tables::put(m.table, m.fields, at, field, block, store, key);
             let table = kept.table;
-            let fields = kept.n;
             let mark = write_both(store, m.mark, key, value);
             let filled = HeaderMap {
                 table,
-                fields,
+                fields: kept.n,
                 mark,
                 edited: true,
                 ..m
             };
-            let answer = Ok(());
             Edited {
-                answer,
+                answer: Ok(()),
                 map: filled,
             }
         }
-        Err(x) => {
-            let answer = Err(x);
-            Edited { answer, map: m }
-        }
+        Err(e) => refused(m, e),
     }
 }
 
@@ -154,18 +149,12 @@ fn put_at<'a>(
 pub fn set<'a>(m: HeaderMap, block: &'a [u8], store: &mut [u8], key: &[u8], value: &[u8]) -> Edited
     ensures { Is (setting m block.now store.old key.now value.now) result block.now store.new }
 {
-    let s = maps::check_done(m, block, store);
-    match s {
+    match maps::check_done(m, block, store) {
         Ok(()) => {
-            let t = m.table;
-            let n = m.fields;
-            let at = tables::first_at(t, n, block, store, key);
+            let at = tables::first_at(&m.table[..m.fields], block, store, key);
             put_at(m, block, store, at, key, value)
         }
-        Err(x) => {
-            let answer = Err(x);
-            Edited { answer, map: m }
-        }
+        Err(e) => refused(m, e),
     }
 }
 
@@ -179,16 +168,9 @@ pub fn append<'a>(
 ) -> Edited
     ensures { Is (appending m block.now store.old key.now value.now) result block.now store.new }
 {
-    let s = maps::check_done(m, block, store);
-    match s {
-        Ok(()) => {
-            let n = m.fields;
-            put_at(m, block, store, n, key, value)
-        }
-        Err(x) => {
-            let answer = Err(x);
-            Edited { answer, map: m }
-        }
+    match maps::check_done(m, block, store) {
+        Ok(()) => put_at(m, block, store, m.fields, key, value),
+        Err(e) => refused(m, e),
     }
 }
 
@@ -196,32 +178,24 @@ pub fn append<'a>(
 pub fn set_status(m: HeaderMap, block: &[u8], store: &mut [u8], text: &[u8]) -> Edited
     ensures { Is (statusing m block.now store.old text.now) result block.now store.new }
 {
-    let s = maps::check_done(m, block, store);
-    match s {
+    match maps::check_done(m, block, store) {
         Ok(()) => {
-            let start = m.mark;
-            let room = m.room;
             let k = sanitise::sanitised_length(text, true);
-            if k <= room - start {
-                let n = sanitise::sanitise_into(store, start, text, true);
-                let mark = start + n;
-                let place = maps::in_store(start, mark);
-                let status = Some(place);
-                let map = HeaderMap {
-                    status,
-                    mark,
-                    edited: true,
-                    ..m
-                };
-                let answer = Ok(());
-                return Edited { answer, map };
+            if k > m.room - m.mark {
+                return refused(m, Refusal::StoreFull);
             }
-            let answer = Err(Refusal::StoreFull);
-            Edited { answer, map: m }
+            let mark = m.mark + sanitise::sanitise_into(store, m.mark, text, true);
+            let with_status = HeaderMap {
+                status: Some(maps::in_store(m.mark, mark)),
+                mark,
+                edited: true,
+                ..m
+            };
+            Edited {
+                answer: Ok(()),
+                map: with_status,
+            }
         }
-        Err(x) => {
-            let answer = Err(x);
-            Edited { answer, map: m }
-        }
+        Err(e) => refused(m, e),
     }
 }

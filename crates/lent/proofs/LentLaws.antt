@@ -1,5 +1,5 @@
 -- Laws of a map in lent numbers: its fields, a field put, the numbers got back, of a table and of a head. Assumes nothing.
-use Rattle.std.specs.Prelude.{None, Ok, Some}
+use Rattle.std.specs.Prelude.{None, Some}
 use mathlib.Core.Path.{◌≡◌, refl, sym, ap, ◌∙◌}
 use mathlib.Core.Logic.{◌≢◌}
 use mathlib.Core.Bool.{Bool, true, false, ◌&&◌}
@@ -38,7 +38,7 @@ module _ (t : List ℕ) (n i : ℕ) where
 
   -- a search among them
   module _ (p : Field → Bool) where
-    pub seek_hit : i < n → p (field_at t i) ≡ true → seeking p i (fields_from t i (n - i)) ≡ Ok (Some i)
+    pub seek_hit : i < n → p (field_at t i) ≡ true → seeking p i (fields_from t i (n - i)) ≡ Some i
     unfolding seeking when◌then◌else◌
     seek_hit h e = rw (from_cons h, e)
 
@@ -46,7 +46,7 @@ module _ (t : List ℕ) (n i : ℕ) where
     unfolding seeking when◌then◌else◌
     seek_more h e = rw (from_cons h, e)
 
-    pub seek_end : n ≤ i → seeking p i (fields_from t i (n - i)) ≡ Ok None
+    pub seek_end : n ≤ i → seeking p i (fields_from t i (n - i)) ≡ None
     unfolding seeking
     seek_end h = rw (from_end h)
 

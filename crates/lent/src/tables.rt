@@ -5,7 +5,6 @@ ghost use Rattle.lookups.specs.Lookups.{named, seeking};
 ghost use Rattle.lent.specs.Table.{place_of, good_stored, place_at, field_at, fields_from, from_of, to_of, place_put, field_put};
 
 use leaves::names;
-use leaves::refusals::Refusal;
 use maps::{BlockOffset, Field, Place, StoreOffset};
 
 // Offsets of the store stand behind this number, those of the block before it.
@@ -140,18 +139,15 @@ pub fn find<'a>(
     store: &'a [u8],
     name: &[u8],
     from: usize,
-) -> Result<Option<usize>, Refusal>
+) -> Option<usize>
     requires { (n ≤ 256) × (length t.now ≡ 1024) }
     ensures { result ≡ seeking (named block.now store.now name.now) from (fields_from t.now from (n - from)) }
 {
-    let mut i = from;
-    while i < n {
-        let p = place_at(t, i * 4);
-        let key = maps::part(block, store, p);
+    for i in from..n {
+        let key = maps::part(block, store, place_at(t, i * 4));
         if names::same_name(key, name) {
-            return Ok(Some(i));
+            return Some(i);
         }
-        i += 1;
     }
-    Ok(None)
+    None
 }

@@ -23,10 +23,10 @@ module _ (t : List ℕ) (h : Head) (b s name : List ℕ) where
     pub find_few : h.fields ≤ 256
     find_few = (ready_of _ (map_in t h) b s e).few
 
-    pub find_lent : seeking (named b s name) 0 (fields_from t 0 (h.fields - 0)) ≡ finding (map_in t h) b s name 0
+    pub find_lent : Ok (seeking (named b s name) 0 (fields_from t 0 (h.fields - 0))) ≡ finding (map_in t h) b s name 0
     find_lent =
         let z : h.fields - 0 ≡ h.fields = omega arith in
-        rw z (ap (seeking (named b s name) 0) (sym (fields_take t 0 256 h.fields find_few)) ∙ sym (find_fine (map_in t h) b s name 0 e))
+        rw z (ap (λ (xs : List Field). Ok (seeking (named b s name) 0 xs)) (sym (fields_take t 0 256 h.fields find_few)) ∙ sym (find_fine (map_in t h) b s name 0 e))
 
   module _ (i : ℕ) (f : finding (map_in t h) b s name 0 ≡ Ok (Some i)) where
     fine : Ok tt ≡ checked_done (map_in t h) b s
@@ -37,7 +37,9 @@ module _ (t : List ℕ) (h : Head) (b s name : List ℕ) where
         by (Err x) e = clash (cc (find_refused (map_in t h) b s name 0 x e))
 
     within : i < h.fields
-    within = omega (arith, (inside (named b s name) 0 i (fields_from t 0 (h.fields - 0)) (find_lent fine ∙ f)).1, fields_length t 0 (h.fields - 0))
+    within =
+        let z : Ok (seeking (named b s name) 0 (fields_from t 0 (h.fields - 0))) ≡ Ok (Some i) = find_lent fine ∙ f in
+        omega (arith, (inside (named b s name) 0 i (fields_from t 0 (h.fields - 0)) (cc)).1, fields_length t 0 (h.fields - 0))
 
     pub found_small : i < 256
     found_small = omega (arith, within, find_few fine)

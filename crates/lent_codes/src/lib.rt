@@ -40,8 +40,8 @@ fn find<'a>(
     requires { length t.now ≡ 1024 }
     ensures { result ≡ finding (map_in t.now h) block.now store.now name.now 0 }
 {
-    lent::check_done(h, t, block, store)?;
-    tables::find(t, h.fields, block, store, name, 0)
+    lent::check_done(h, t, block, store)?; // who reads the field that is found need not judge the map again
+    Ok(tables::find(t, h.fields, block, store, name, 0))
 }
 
 // The value of a field that was found: its map is judged already.

@@ -5,7 +5,7 @@ use mathlib.Core.List.{List, ◌++◌}
 use Prim.Native.Nat.{ℕ, ◌+◌, ◌≤◌, ◌<◌}
 use native.Mathlib.Omega.{arith}
 use lib.ListN.{length, get_or, take, drop}
-use lib.Seq.{get_or-take}
+use lib.Seq.{get_or-take, length-take-le}
 use Rattle.maps.specs.Places.{no_field}
 use Rattle.maps.specs.Good.{Fit, FitAll}
 use Rattle.maps.specs.declared.Field.{Field}
@@ -62,8 +62,11 @@ module _ (p : Field → Bool) (t₀ : List ℕ) (start n : ℕ) (few : n ≤ 256
 
 -- the search for the first: i fields were passed
 module _ (p : Field → Bool) (t : List ℕ) (n i : ℕ) (few : n ≤ 256) (h : i < n) (f : Field) (e : f ≡ field_at t i) where
+  among : i < length (take n (table_of t))
+  among = rw (length-take-le n (table_of t) (within t n few)) h
+
   pub first_passed : p f ≡ false → i + first_at p (drop i (take n (table_of t))) ≡ i + 1 + first_at p (drop (i + 1) (take n (table_of t)))
-  first_passed q = first_more p (table_of t) n i (within t n few) h (ap p (sym (got t n few i h f e)) ∙ q)
+  first_passed q = first_more p (take n (table_of t)) i among (ap p (get_or-take n (table_of t) i no_field h ∙ sym (got t n few i h f e)) ∙ q)
 
   pub first_found : p f ≡ true → i + first_at p (drop i (take n (table_of t))) ≡ i
-  first_found q = first_hit p (table_of t) n i (within t n few) h (ap p (sym (got t n few i h f e)) ∙ q)
+  first_found q = first_hit p (take n (table_of t)) i among (ap p (get_or-take n (table_of t) i no_field h ∙ sym (got t n few i h f e)) ∙ q)

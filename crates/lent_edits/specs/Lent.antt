@@ -1,5 +1,7 @@
 -- What an edit of a map in lent numbers gives, as an edit by value does. Assumes nothing.
-use Rattle.std.specs.Prelude.{List, ℕ}
+use Rattle.std.specs.Prelude.{List, ℕ, Err}
+use Rattle.leaves.specs.declared.refusals.Refusal.{Refusal}
+use Rattle.maps.specs.declared.Head.{Head}
 use Rattle.edits.specs.declared.Edited.{Edited}
 use Rattle.edits.specs.declared.tables.Kept.{Kept}
 use Rattle.lent.specs.Table.{table_of, map_in}
@@ -12,3 +14,7 @@ kept_in t n = record { table = table_of t; n = n }
 -- an edit's answer, and the map of the table under the head
 abbrev pub edited_in : List ℕ → EditedHead → Edited
 edited_in t r = record { answer = r.answer; map = map_in t r.head }
+
+-- a refused edit leaves the head
+abbrev pub left_head : Head → Refusal → EditedHead
+left_head h x = record { answer = Err x; head = h }

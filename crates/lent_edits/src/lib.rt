@@ -6,7 +6,7 @@ ghost use Rattle.maps.specs.Good.{checked_done};
 ghost use Rattle.maps.specs.Maps.{Is};
 ghost use Rattle.edits.specs.Edits.{putting, removing, setting, appending, statusing};
 ghost use Rattle.lent.specs.Table.{map_in};
-ghost use Rattle.lent_edits.specs.Lent.{edited_in};
+ghost use Rattle.lent_edits.specs.Lent.{edited_in, left_head};
 
 use leaves::refusals::Refusal;
 use leaves::sanitise;
@@ -14,11 +14,20 @@ use maps::Head;
 
 mod tables;
 
-// An edit's answer and the head that it leaves.
+// An edit's answer and the head that it leaves: the head as it was if it is refused.
 #[derive(Clone, Copy)]
 pub struct EditedHead {
     pub answer: Result<(), Refusal>,
     pub head: Head,
+}
+
+fn refused(h: Head, e: Refusal) -> EditedHead
+    ensures { result ≡ left_head h e }
+{
+    EditedHead {
+        answer: Err(e),
+        head: h,
+    }
 }
 
 // Drops every field whose key is the sanitised key.
@@ -32,24 +41,20 @@ pub fn remove<'a>(
     requires { length t.old ≡ 1024 }
     ensures { Is (removing (map_in t.old h) block.now store.now key.now) (edited_in t.new result) block.now store.now }
 {
-    let s = lent::check_done(h, t, block, store);
-    match s {
+    match lent::check_done(h, t, block, store) {
         Ok(()) => {
-            let n = h.fields;
-            let fields = tables::compact(t, 0, n, block, store, key);
-            let edited = edits::changed(h.edited, fields, n);
+            let fields = tables::compact(t, 0, h.fields, block, store, key);
             let head = Head {
                 fields,
-                edited,
+                edited: edits::changed(h.edited, fields, h.fields),
                 ..h
             };
-            let answer = Ok(());
-            EditedHead { answer, head }
+            EditedHead {
+                answer: Ok(()),
+                head,
+            }
         }
-        Err(x) => {
-            let answer = Err(x);
-            EditedHead { answer, head: h }
-        }
+        Err(e) => refused(h, e),
     }
 }
 
@@ -66,10 +71,9 @@ fn put_at<'a>(
     requires { (length t.old ≡ 1024) × (Ok tt ≡ checked_done (map_in t.old h) block.now store.old) × (at ≤ h.fields) }
     ensures { Is (putting (map_in t.old h) block.now store.old at key.now value.now) (edited_in t.new result) block.now store.new }
 {
-    let planned = edits::plan_put(at, h.mark, h.room, key, value);
-    match planned {
-        Ok(f) => {
-            let fields = tables::put(t, h.fields, at, f, block, store, key);
+    match edits::plan_put(at, h.mark, h.room, key, value) {
+        Ok(field) => {
+            let fields = tables::put(t, h.fields, at, field, block, store, key);
             let mark = edits::write_both(store, h.mark, key, value);
             let filled = Head {
                 fields,
@@ -77,16 +81,12 @@ fn put_at<'a>(
                 edited: true,
                 ..h
             };
-            let answer = Ok(());
             EditedHead {
-                answer,
+                answer: Ok(()),
                 head: filled,
             }
         }
-        Err(x) => {
-            let answer = Err(x);
-            EditedHead { answer, head: h }
-        }
+        Err(e) => refused(h, e),
     }
 }
 
@@ -102,17 +102,12 @@ pub fn set<'a>(
     requires { length t.old ≡ 1024 }
     ensures { Is (setting (map_in t.old h) block.now store.old key.now value.now) (edited_in t.new result) block.now store.new }
 {
-    let s = lent::check_done(h, t, block, store);
-    match s {
+    match lent::check_done(h, t, block, store) {
         Ok(()) => {
-            let n = h.fields;
-            let at = tables::first_at(t, n, block, store, key);
+            let at = tables::first_at(t, h.fields, block, store, key);
             put_at(h, t, block, store, at, key, value)
         }
-        Err(x) => {
-            let answer = Err(x);
-            EditedHead { answer, head: h }
-        }
+        Err(e) => refused(h, e),
     }
 }
 
@@ -128,16 +123,9 @@ pub fn append<'a>(
     requires { length t.old ≡ 1024 }
     ensures { Is (appending (map_in t.old h) block.now store.old key.now value.now) (edited_in t.new result) block.now store.new }
 {
-    let s = lent::check_done(h, t, block, store);
-    match s {
-        Ok(()) => {
-            let n = h.fields;
-            put_at(h, t, block, store, n, key, value)
-        }
-        Err(x) => {
-            let answer = Err(x);
-            EditedHead { answer, head: h }
-        }
+    match lent::check_done(h, t, block, store) {
+        Ok(()) => put_at(h, t, block, store, h.fields, key, value),
+        Err(e) => refused(h, e),
     }
 }
 
@@ -146,32 +134,24 @@ pub fn set_status(h: Head, t: &[u32], block: &[u8], store: &mut [u8], text: &[u8
     requires { length t.now ≡ 1024 }
     ensures { Is (statusing (map_in t.now h) block.now store.old text.now) (edited_in t.now result) block.now store.new }
 {
-    let s = lent::check_done(h, t, block, store);
-    match s {
+    match lent::check_done(h, t, block, store) {
         Ok(()) => {
-            let start = h.mark;
-            let room = h.room;
             let k = sanitise::sanitised_length(text, true);
-            if k <= room - start {
-                let n = sanitise::sanitise_into(store, start, text, true);
-                let mark = start + n;
-                let place = maps::in_store(start, mark);
-                let status = Some(place);
-                let head = Head {
-                    status,
-                    mark,
-                    edited: true,
-                    ..h
-                };
-                let answer = Ok(());
-                return EditedHead { answer, head };
+            if k > h.room - h.mark {
+                return refused(h, Refusal::StoreFull);
             }
-            let answer = Err(Refusal::StoreFull);
-            EditedHead { answer, head: h }
+            let mark = h.mark + sanitise::sanitise_into(store, h.mark, text, true);
+            let with_status = Head {
+                status: Some(maps::in_store(h.mark, mark)),
+                mark,
+                edited: true,
+                ..h
+            };
+            EditedHead {
+                answer: Ok(()),
+                head: with_status,
+            }
         }
-        Err(x) => {
-            let answer = Err(x);
-            EditedHead { answer, head: h }
-        }
+        Err(e) => refused(h, e),
     }
 }

@@ -23,18 +23,14 @@ pub fn compact<'a>(
     ensures { kept_in t.new result ≡ laid (table_of t.old) (take start (table_of t.old) ++ keeps (named block.now store.now (sanitised true key.now)) (drop start (take n (table_of t.old)))) }
 {
     let mut k = start;
-    let mut i = start;
-    while i < n {
-        let f = lent::tables::field_at(t, i);
-        let p = f.key;
-        let text = maps::part(block, store, p);
+    for i in start..n {
+        let field = lent::tables::field_at(t, i);
+        let text = maps::part(block, store, field.key);
         if sanitise::matches_sanitised(text, key) {
-            i += 1;
-        } else {
-            lent::tables::put_field(t, k, f);
-            k += 1;
-            i += 1;
+            continue;
         }
+        lent::tables::put_field(t, k, field);
+        k += 1;
     }
     k
 }
@@ -44,17 +40,14 @@ pub fn first_at<'a>(t: &[u32], n: usize, block: &'a [u8], store: &'a [u8], key: 
     requires { (n ≤ 256) × (length t.now ≡ 1024) }
     ensures { (result ≡ first_at (named block.now store.now (sanitised true key.now)) (take n (table_of t.now))) × (result ≤ n) }
 {
-    let mut i = 0;
-    while i < n {
-        let f = lent::tables::field_at(t, i);
-        let p = f.key;
-        let text = maps::part(block, store, p);
+    for i in 0..n {
+        let field = lent::tables::field_at(t, i);
+        let text = maps::part(block, store, field.key);
         if sanitise::matches_sanitised(text, key) {
             return i;
         }
-        i += 1;
     }
-    i
+    n
 }
 
 // The field f becomes the field number at, and later fields whose key is the sanitised key go; how many then count.

@@ -29,18 +29,18 @@ module _ (t : List Field) (n i : ℕ) where
       let k : length (take n t) ≤ i = simp length-take (omega arith) in
       drop_of_length-le (take n t) k
 
-  module _ (p : Field → Bool) where
-    pub seek_hit : n ≤ length t → i < n → p (get_or t i no_field) ≡ true → seeking p i (drop i (take n t)) ≡ Ok (Some i)
-    unfolding seeking when◌then◌else◌
-    seek_hit w h e = rw (live_cons w h, e)
+module _ (xs : List Field) (i : ℕ) (p : Field → Bool) where
+  pub seek_hit : i < length xs → p (get_or xs i no_field) ≡ true → seeking p i (drop i xs) ≡ Some i
+  unfolding seeking when◌then◌else◌
+  seek_hit h e = rw (drop-cons xs i no_field h, e)
 
-    pub seek_more : n ≤ length t → i < n → p (get_or t i no_field) ≡ false → seeking p i (drop i (take n t)) ≡ seeking p (i + 1) (drop (i + 1) (take n t))
-    unfolding seeking when◌then◌else◌
-    seek_more w h e = rw (live_cons w h, e)
+  pub seek_more : i < length xs → p (get_or xs i no_field) ≡ false → seeking p i (drop i xs) ≡ seeking p (i + 1) (drop (i + 1) xs)
+  unfolding seeking when◌then◌else◌
+  seek_more h e = rw (drop-cons xs i no_field h, e, add-one)
 
-    pub seek_end : n ≤ i → seeking p i (drop i (take n t)) ≡ Ok None
-    unfolding seeking
-    seek_end h = rw (live_end h)
+  pub seek_end : length xs ≤ i → seeking p i (drop i xs) ≡ None
+  unfolding seeking
+  seek_end h = rw (drop_of_length-le xs h)
 
 -- a search sees only what the test says of each
 pub seek_map {ℓ κ} : {A : Type ℓ} {B : Type κ} (f : A → B) (p : A → Bool) (q : B → Bool) (n : ℕ) (xs : List A) → map p xs ≡ map q (map f xs)
@@ -53,7 +53,7 @@ seek_map f p q n (x ∷ xs) e =
     rw (h, seek_map f p q (n + 1) xs t)
 
 module _ (m : HeaderMap) (b s name : List ℕ) (from : ℕ) where
-  pub find_fine : Ok tt ≡ checked_done m b s → finding m b s name from ≡ seeking (named b s name) from (drop from (live m))
+  pub find_fine : Ok tt ≡ checked_done m b s → finding m b s name from ≡ Ok (seeking (named b s name) from (drop from (live m)))
   unfolding finding
   find_fine e = goes_on Err _ _ e
 

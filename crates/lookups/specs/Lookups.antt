@@ -1,6 +1,6 @@
 -- What a lookup finds, and what the lookups hand out. Assumes nothing.
 use Rattle.leaves.specs.declared.refusals.Refusal.{Refusal}
-use Rattle.std.specs.Prelude.{◌≡◌, Bool, List, [], ◌∷◌, ℕ, ◌+◌, ltb, get_or, drop, Err, None, Ok, Option, Result, Some}
+use Rattle.std.specs.Prelude.{◌≡◌, Bool, List, [], ◌∷◌, ℕ, ◌+◌, ltb, get_or, drop, Err, None, Ok, Option, Result, Some, option_map}
 use Rattle.leaves.specs.Choice.{when◌then◌else◌}
 use Rattle.leaves.specs.Name.{same_name}
 use Rattle.maps.specs.Places.{at, no_field, begins, Same}
@@ -14,23 +14,21 @@ unfoldable pub named : List ℕ → List ℕ → List ℕ → Field → Bool
 named b s name x = same_name (at b s x.key) name
 
 -- the number of the first that passes, the first of them being number n
-unfoldable pub seeking {ℓ} : {A : Type ℓ} → (A → Bool) → ℕ → List A → Result (Option ℕ) Refusal
-seeking p n [] = Ok None
-seeking p n (x ∷ xs) = when p x then Ok (Some n) else seeking p (n + 1) xs
+unfoldable pub seeking {ℓ} : {A : Type ℓ} → (A → Bool) → ℕ → List A → Option ℕ
+seeking p n [] = None
+seeking p n (x ∷ xs) = when p x then Some n else seeking p (n + 1) xs
 
 -- "A lookup from a given field number on gives missing or a field number."
 unfoldable pub finding : HeaderMap → List ℕ → List ℕ → List ℕ → ℕ → Result (Option ℕ) Refusal
-finding m b s name from = unless (checked_done m b s) Err (seeking (named b s name) from (drop from (live m)))
+finding m b s name from = unless (checked_done m b s) Err (Ok (seeking (named b s name) from (drop from (live m))))
 
 -- a number that was found, with its field
-abbrev pub sighted_in : List Field → Result (Option ℕ) Refusal → Result (Option (ℕ × Field)) Refusal
-sighted_in t (Ok (Some i)) = Ok (Some (i, (get_or t i no_field)))
-sighted_in t (Ok None) = Ok None
-sighted_in t (Err x) = Err x
+abbrev pub sighted_in : List Field → Option ℕ → Option (ℕ × Field)
+sighted_in t f = option_map (λ (i : ℕ). (i, get_or t i no_field)) f
 
 -- a lookup that gives the field too
 unfoldable pub sighting : HeaderMap → List ℕ → List ℕ → List ℕ → ℕ → Result (Option (ℕ × Field)) Refusal
-sighting m b s name from = sighted_in m.table (finding m b s name from)
+sighting m b s name from = unless (checked_done m b s) Err (Ok (sighted_in m.table (seeking (named b s name) from (drop from (live m)))))
 
 -- the field number i, none "for a wrong number .. or a refusal"
 unfoldable pub slot_of : HeaderMap → List ℕ → List ℕ → ℕ → Option Field

@@ -1,7 +1,7 @@
 // Lookups: a field's number by its name; key, value and status as parts of the block or of the store.
 #![tactic(auto)]
 
-ghost use Rattle.std.specs.Prelude.{◌≡◌, ◌≤◌, take, drop};
+ghost use Rattle.std.specs.Prelude.{◌≡◌, drop};
 ghost use Rattle.lookups.specs.Lookups.{named, seeking, finding, sighted_in, sighting, slot_of, shown_status, value_place, key_place, status_place, Handed};
 
 use leaves::names;
@@ -10,27 +10,22 @@ use maps::{Field, HeaderMap, Place};
 
 // The first field from a given number on that has a name.
 fn seek<'a>(
-    t: [Field; 256],
-    n: usize,
+    fields: &[Field],
     block: &'a [u8],
     store: &'a [u8],
     name: &[u8],
     from: usize,
-) -> Result<Option<(usize, Field)>, Refusal>
-    requires { n ≤ 256 }
-    ensures { result ≡ sighted_in t (seeking (named block.now store.now name.now) from (drop from (take n t))) }
+) -> Option<(usize, Field)>
+    ensures { result ≡ sighted_in fields.now (seeking (named block.now store.now name.now) from (drop from fields.now)) }
 {
-    let mut i = from;
-    while i < n {
-        let f = t[i];
-        let p = f.key;
-        let key = maps::part(block, store, p);
+    for i in from..fields.len() {
+        let field = fields[i];
+        let key = maps::part(block, store, field.key);
         if names::same_name(key, name) {
-            return Ok(Some((i, f)));
+            return Some((i, field));
         }
-        i += 1;
     }
-    Ok(None)
+    None
 }
 
 // The first field from a given number on that has a name, with its number: who wants its value too need not have the map judged again.
@@ -43,15 +38,8 @@ pub fn sight<'a>(
 ) -> Result<Option<(usize, Field)>, Refusal>
     ensures { result ≡ sighting m block.now store.now name.now from }
 {
-    let s = maps::check_done(m, block, store);
-    match s {
-        Ok(()) => {
-            let t = m.table;
-            let n = m.fields;
-            seek(t, n, block, store, name, from)
-        }
-        Err(x) => Err(x),
-    }
+    maps::check_done(m, block, store)?;
+    Ok(seek(&m.table[..m.fields], block, store, name, from))
 }
 
 // The number of the first field from a given number on that has a name.
@@ -64,11 +52,9 @@ pub fn find<'a>(
 ) -> Result<Option<usize>, Refusal>
     ensures { result ≡ finding m block.now store.now name.now from }
 {
-    let s = sight(m, block, store, name, from);
-    match s {
-        Ok(Some((i, f))) => Ok(Some(i)),
-        Ok(None) => Ok(None),
-        Err(x) => Err(x),
+    match sight(m, block, store, name, from)? {
+        Some((i, _)) => Ok(Some(i)),
+        None => Ok(None),
     }
 }
 
@@ -77,17 +63,10 @@ pub fn find<'a>(
 fn slot_at(m: HeaderMap, block: &[u8], store: &[u8], i: usize) -> Option<Field>
     ensures { result ≡ slot_of m block.now store.now i }
 {
-    let s = maps::check_done(m, block, store);
-    match s {
-        Ok(()) => {
-            let n = m.fields;
-            if i < n {
-                let f = m.table[i];
-                return Some(f);
-            }
-            None
-        }
-        Err(x) => None,
+    if maps::check_done(m, block, store).is_ok() && i < m.fields {
+        Some(m.table[i])
+    } else {
+        None
     }
 }
 
@@ -95,13 +74,9 @@ fn slot_at(m: HeaderMap, block: &[u8], store: &[u8], i: usize) -> Option<Field>
 pub fn value<'a>(m: HeaderMap, block: &'a [u8], store: &'a [u8], i: usize) -> &'a [u8]
     ensures { Handed block.now store.now block.entry.ref_ptr store.entry.ref_ptr (value_place m block.now store.now i) result.now result.ref_ptr }
 {
-    let s = slot_at(m, block, store, i);
-    match s {
+    match slot_at(m, block, store, i) {
+        Some(field) => maps::part(block, store, field.value),
         None => &block[0..0],
-        Some(f) => {
-            let p = f.value;
-            maps::part(block, store, p)
-        }
     }
 }
 
@@ -109,13 +84,9 @@ pub fn value<'a>(m: HeaderMap, block: &'a [u8], store: &'a [u8], i: usize) -> &'
 pub fn key<'a>(m: HeaderMap, block: &'a [u8], store: &'a [u8], i: usize) -> &'a [u8]
     ensures { Handed block.now store.now block.entry.ref_ptr store.entry.ref_ptr (key_place m block.now store.now i) result.now result.ref_ptr }
 {
-    let s = slot_at(m, block, store, i);
-    match s {
+    match slot_at(m, block, store, i) {
+        Some(field) => maps::part(block, store, field.key),
         None => &block[0..0],
-        Some(f) => {
-            let p = f.key;
-            maps::part(block, store, p)
-        }
     }
 }
 
@@ -123,10 +94,9 @@ pub fn key<'a>(m: HeaderMap, block: &'a [u8], store: &'a [u8], i: usize) -> &'a 
 fn shown_status(m: HeaderMap, block: &[u8], store: &[u8]) -> Option<Place>
     ensures { result ≡ shown_status m block.now store.now }
 {
-    let s = maps::check_done(m, block, store);
-    match s {
+    match maps::check_done(m, block, store) {
         Ok(()) => m.status,
-        Err(x) => None,
+        Err(_) => None,
     }
 }
 
@@ -134,9 +104,8 @@ fn shown_status(m: HeaderMap, block: &[u8], store: &[u8]) -> Option<Place>
 pub fn status<'a>(m: HeaderMap, block: &'a [u8], store: &'a [u8]) -> &'a [u8]
     ensures { Handed block.now store.now block.entry.ref_ptr store.entry.ref_ptr (status_place m block.now store.now) result.now result.ref_ptr }
 {
-    let s = shown_status(m, block, store);
-    match s {
+    match shown_status(m, block, store) {
+        Some(place) => maps::part(block, store, place),
         None => &block[0..0],
-        Some(p) => maps::part(block, store, p),
     }
 }

@@ -43,7 +43,7 @@ pub record Alters (a : Ask) (m : HeaderMap) (b s : List ℕ) : Type 0 where
 -- lookups in a map that 3, 2 and 7 do not refuse
 pub record Looks (m : HeaderMap) (b s : List ℕ) : Type 0 where
   -- "A lookup from a given field number on gives missing or a field number."
-  pub find : (name : List ℕ) (from : ℕ) → finding m b s name from ≡ find_said name from (saying m b s)
+  pub find : (name : List ℕ) (from : ℕ) → finding m b s name from ≡ Ok (find_said name from (saying m b s))
   -- "hands out the value ..., others the key and the status"; for a wrong number or no status no octets
   pub value : (i : ℕ) → handed_out b s (value_place m b s i) ≡ (get_or (saying m b s).pairs i (pair [] [])).value
   pub key : (i : ℕ) → handed_out b s (key_place m b s i) ≡ (get_or (saying m b s).pairs i (pair [] [])).key

@@ -65,7 +65,7 @@ marked (ask_remove key) edited x = edited || ltb (length (remove_said (sanitised
 marked (ask_status text) edited x = true
 
 -- "A lookup from a given field number on gives missing or a field number."
-abbrev pub find_said : List ℕ → ℕ → Said → Result (Option ℕ) Refusal
+abbrev pub find_said : List ℕ → ℕ → Said → Option ℕ
 find_said name from x = seeking (called name) from (drop from x.pairs)
 
 -- what the map of an edit says then, and what the next call's first checks say of it

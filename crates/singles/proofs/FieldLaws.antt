@@ -42,7 +42,7 @@ module _ (b s name : List ℕ) where
     unfolding values_of named when◌then◌else◌
     values_skip e = rw e
 
-    seek_at : (n : ℕ) → named b s name x ≡ true → seeking (named b s name) n (x ∷ xs) ≡ Ok (Some n)
+    seek_at : (n : ℕ) → named b s name x ≡ true → seeking (named b s name) n (x ∷ xs) ≡ Some n
     unfolding seeking when◌then◌else◌
     seek_at n e = rw e
 
@@ -54,23 +54,23 @@ module _ (b s name : List ℕ) where
   unfolding values_of
   no_values = refl
 
-  seek_none : (n : ℕ) → seeking (named b s name) n [] ≡ Ok None
+  seek_none : (n : ℕ) → seeking (named b s name) n [] ≡ None
   unfolding seeking
   seek_none n = refl
 
-  missing_none : (n : ℕ) (xs : List Field) → seeking (named b s name) n xs ≡ Ok None → worth b s name xs ≡ []
+  missing_none : (n : ℕ) (xs : List Field) → seeking (named b s name) n xs ≡ None → worth b s name xs ≡ []
   missing_none n [] e = no_values
   missing_none n (x ∷ xs) e = choose (named b s name x) refl (λ h. missing_none (n + 1) xs h)
     where
-      choose : (t : Bool) → named b s name x ≡ t → (seeking (named b s name) (n + 1) xs ≡ Ok None → worth b s name xs ≡ []) → worth b s name (x ∷ xs) ≡ []
+      choose : (t : Bool) → named b s name x ≡ t → (seeking (named b s name) (n + 1) xs ≡ None → worth b s name xs ≡ []) → worth b s name (x ∷ xs) ≡ []
       choose true f ih = clash (cc (seek_at x xs n f))
       choose false f ih = values_skip x xs f ∙ ih (sym (seek_on x xs n f) ∙ e)
 
-  found_hit : (n i : ℕ) (xs : List Field) → seeking (named b s name) n xs ≡ Ok (Some i) → Hit b s name n i xs
+  found_hit : (n i : ℕ) (xs : List Field) → seeking (named b s name) n xs ≡ Some i → Hit b s name n i xs
   found_hit n i [] e = clash (cc (seek_none n))
   found_hit n i (x ∷ xs) e = choose (named b s name x) refl (λ h. found_hit (n + 1) i xs h)
     where
-      choose : (t : Bool) → named b s name x ≡ t → (seeking (named b s name) (n + 1) xs ≡ Ok (Some i) → Hit b s name (n + 1) i xs) → Hit b s name n i (x ∷ xs)
+      choose : (t : Bool) → named b s name x ≡ t → (seeking (named b s name) (n + 1) xs ≡ Some i → Hit b s name (n + 1) i xs) → Hit b s name n i (x ∷ xs)
       choose true f ih =
           let z : n ≡ i = cc (seek_at x xs n f) in
           record { index = 0; is = omega arith; inside = omega arith; values = values_hit x xs f }
@@ -80,14 +80,6 @@ module _ (b s name : List ℕ) where
           let y : h.index < length xs = h.inside in
           record { index = suc h.index; is = omega arith; inside = omega arith; values = values_skip x xs f ∙ h.values }
 
-  seek_refused : {A : Type 0} (xs : List Field) (n : ℕ) (r : Refusal) → seeking (named b s name) n xs ≡ Err r → A
-  seek_refused [] n r e = clash (cc (seek_none n))
-  seek_refused {A} (x ∷ xs) n r e = choose (named b s name x) refl (λ h. seek_refused xs (n + 1) r h)
-    where
-      choose : (t : Bool) → named b s name x ≡ t → (seeking (named b s name) (n + 1) xs ≡ Err r → A) → A
-      choose true f ih = clash (cc (seek_at x xs n f))
-      choose false f ih = ih (sym (seek_on x xs n f) ∙ e)
-
   hit_values : (n i j : ℕ) (xs : List Field) → Hit b s name n i xs → i ≡ n + j
       → (j < length xs) × (worth b s name xs ≡ at b s (get_or xs j no_field).value ∷ worth b s name (drop (suc j) xs))
   hit_values n i j xs h e =
@@ -96,9 +88,13 @@ module _ (b s name : List ℕ) where
       (rw z at h.inside, rw z at h.values)
 
 module _ (m : HeaderMap) (b s name : List ℕ) (e : Ok tt ≡ checked_done m b s) where
+  -- what was searched for, from what was found
+  some_of : (from : ℕ) (f : Option ℕ) → finding m b s name from ≡ Ok f → seeking (named b s name) from (drop from (live m)) ≡ f
+  some_of from f g = let h : Ok (seeking (named b s name) from (drop from (live m))) ≡ Ok f = sym (find_fine m b s name from e) ∙ g in cc
+
   first_hit : (i : ℕ) → finding m b s name 0 ≡ Ok (Some i)
       → (i < length (live m)) × (worth b s name (live m) ≡ at b s (get_or (live m) i no_field).value ∷ worth b s name (drop (suc i) (live m)))
-  first_hit i f = hit_values b s name 0 i i (live m) (found_hit b s name 0 i (live m) (sym (find_fine m b s name 0 e) ∙ f)) (omega arith)
+  first_hit i f = hit_values b s name 0 i i (live m) (found_hit b s name 0 i (live m) (some_of 0 (Some i) f)) (omega arith)
 
   few : length (live m) ≤ 256
   few = let w = (ready_of _ m b s e).few in omega (arith, w, length-take m.fields m.table)
@@ -110,13 +106,13 @@ module _ (m : HeaderMap) (b s name : List ℕ) (e : Ok tt ≡ checked_done m b s
   small i f = let h = (first_hit i f).0 in let k = few in omega arith
 
   pub never_refused : {A : Type 0} (from : ℕ) (x : Refusal) → finding m b s name from ≡ Err x → A
-  never_refused from x f = seek_refused b s name (drop from (live m)) from x (sym (find_fine m b s name from e) ∙ f)
+  never_refused from x f = clash (cc (find_fine m b s name from e))
 
   values_none : finding m b s name 0 ≡ Ok None → worth b s name (live m) ≡ []
-  values_none f = missing_none b s name 0 (live m) (sym (find_fine m b s name 0 e) ∙ f)
+  values_none f = missing_none b s name 0 (live m) (some_of 0 None f)
 
-  rest_of : (i : ℕ) (f : Result (Option ℕ) Refusal) → finding m b s name (i + 1) ≡ f → seeking (named b s name) (suc i) (drop (suc i) (live m)) ≡ f
-  rest_of i f g = rw add-one at (sym (find_fine m b s name (i + 1) e) ∙ g)
+  rest_of : (i : ℕ) (f : Option ℕ) → finding m b s name (i + 1) ≡ Ok f → seeking (named b s name) (suc i) (drop (suc i) (live m)) ≡ f
+  rest_of i f g = rw add-one at (some_of (i + 1) f g)
 
   -- the value that a lookup hands out for a field that it found
   handed_is : (i : ℕ) → i < length (live m) → handed_out b s (value_place m b s i) ≡ at b s (get_or (live m) i no_field).value
@@ -143,12 +139,12 @@ module _ (m : HeaderMap) (b s name : List ℕ) (e : Ok tt ≡ checked_done m b s
   only_found : (i : ℕ) → finding m b s name 0 ≡ Ok (Some i) → finding m b s name (i + 1) ≡ Ok None
       → (v : List ℕ) → v ≡ handed_out b s (value_place m b s i) → v ≡ only_value name (saying m b s)
   only_found i f g v h =
-      let r : worth b s name (drop (suc i) (live m)) ≡ [] = missing_none b s name (suc i) (drop (suc i) (live m)) (rest_of i (Ok None) g) in
+      let r : worth b s name (drop (suc i) (live m)) ≡ [] = missing_none b s name (suc i) (drop (suc i) (live m)) (rest_of i None g) in
       h ∙ sym (ap only_of (values_found i f ∙ ap (λ (vs : List (List ℕ)). handed_out b s (value_place m b s i) ∷ vs) r))
 
   only_again : (i j : ℕ) → finding m b s name 0 ≡ Ok (Some i) → finding m b s name (i + 1) ≡ Ok (Some j) → [] ≡ only_value name (saying m b s)
   only_again i j f g =
-      let h = found_hit b s name (suc i) j (drop (suc i) (live m)) (rest_of i (Ok (Some j)) g) in
+      let h = found_hit b s name (suc i) j (drop (suc i) (live m)) (rest_of i (Some j) g) in
       sym (ap only_of (values_found i f ∙ ap (λ (vs : List (List ℕ)). handed_out b s (value_place m b s i) ∷ vs) h.values))
 
 module _ (m : HeaderMap) (b s name : List ℕ) where

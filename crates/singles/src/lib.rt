@@ -13,10 +13,10 @@ pub fn only_value<'a>(m: HeaderMap, block: &'a [u8], store: &'a [u8], name: &[u8
     match lookups::sight(m, block, store, name, 0) {
         Ok(Some((first, field))) => match lookups::find(m, block, store, name, first + 1) {
             Ok(None) => maps::part(block, store, field.value),
-            Ok(Some(second)) => &block[0..0],
-            Err(e) => &block[0..0],
+            Ok(Some(_)) => &block[0..0],
+            Err(_) => &block[0..0],
         },
         Ok(None) => &block[0..0],
-        Err(e) => &block[0..0],
+        Err(_) => &block[0..0],
     }
 }

@@ -9,13 +9,13 @@ use Rattle.edits.proofs.remove.Goals as goal
 pub compact-kept-requires : goal.compact-kept-requires
 compact-kept-requires c =
     let a = c.args in
-    let e = sym c.in-Ok.is ∙ c.check_done-s.ensures in
+    let e = sym c.in-Ok.is ∙ c.check_done.ensures in
     let w = ready_of _ a.m a.block.now a.store.now e in
     (search rules, w.few)
 
 pub returns-in-Ok : goal.returns-in-Ok
-returns-in-Ok c = let a = c.args in remove_is a.m a.block.now a.store.now a.key.now (sym c.in-Ok.is ∙ c.check_done-s.ensures) _ c.compact-kept.ensures _ c.changed-edited.ensures
+returns-in-Ok c = let a = c.args in remove_is a.m a.block.now a.store.now a.key.now (sym c.in-Ok.is ∙ c.check_done.ensures) _ c.compact-kept.ensures _ c.changed.ensures
 
 pub returns-in-Err : goal.returns-in-Err
 unfolding removing
-returns-in-Err c = edit_refused _ _ _ _ _ (sym c.in-Err.is ∙ c.check_done-s.ensures)
+returns-in-Err c = rw c.refused.ensures (edit_refused _ _ _ _ _ (sym c.in-Err.is ∙ c.check_done.ensures))

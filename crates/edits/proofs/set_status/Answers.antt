@@ -10,48 +10,48 @@ use Prim.Native.Nat.{◌+◌, ◌≤◌, ◌<◌}
 use lib.ListN.{length}
 use Rattle.edits.proofs.set_status.Goals as goal
 
-pub overflow_sub-room : goal.overflow_sub-room
-overflow_sub-room c =
+pub overflow_sub-m : goal.overflow_sub-m
+overflow_sub-m c =
     let a = c.args in
-    let e = sym c.in-Ok.is ∙ c.check_done-s.ensures in
+    let e = sym c.in-Ok.is ∙ c.check_done.ensures in
     let w = ready_of _ a.m a.block.now a.store.now e in
     w.mark
 
-pub sanitise_into-n-requires : goal.sanitise_into-n-requires
-sanitise_into-n-requires c =
+pub sanitise_into-requires : goal.sanitise_into-requires
+sanitise_into-requires c =
     let a = c.args in
-    let e = sym c.in-Ok.is ∙ c.check_done-s.ensures in
+    let e = sym c.in-Ok.is ∙ c.check_done.ensures in
     let w = ready_of _ a.m a.block.now a.store.now e in
     let k : c.sanitised_length-k.result ≡ length (sanitised true a.text.now) = c.sanitised_length-k.ensures in
-    omega (arith, w.mark, w.store, c.if-k-room.true)
+    omega (arith, w.mark, w.store, c.if-k-m.false)
 
-pub in_store-place-requires : goal.in_store-place-requires
-in_store-place-requires c =
+pub in_store-requires : goal.in_store-requires
+in_store-requires c =
     let a = c.args in
-    let e = sym c.in-Ok.is ∙ c.check_done-s.ensures in
+    let e = sym c.in-Ok.is ∙ c.check_done.ensures in
     let w = ready_of _ a.m a.block.now a.store.now e in
     let k : c.sanitised_length-k.result ≡ length (sanitised true a.text.now) = c.sanitised_length-k.ensures in
-    (omega (arith, w.mark, w.most), omega (arith, w.mark, w.most, c.if-k-room.true, c.sanitise_into-n.ensures.0))
+    (omega (arith, w.mark, w.most), omega (arith, w.mark, w.most, c.if-k-m.false, c.sanitise_into.ensures.0))
 
-pub returns-then-k-room : goal.returns-then-k-room
-returns-then-k-room c =
+pub returns-else-k-m : goal.returns-else-k-m
+returns-else-k-m c =
     let a = c.args in
-    let e = sym c.in-Ok.is ∙ c.check_done-s.ensures in
+    let e = sym c.in-Ok.is ∙ c.check_done.ensures in
     let w = ready_of _ a.m a.block.now a.store.now e in
     let k : c.sanitised_length-k.result ≡ length (sanitised true a.text.now) = c.sanitised_length-k.ensures in
-    let g : a.m.mark + length (sanitised true a.text.now) ≤ a.m.room = omega (arith, w.mark, c.if-k-room.true) in
-    let n : c.sanitise_into-n.result ≡ length (sanitised true a.text.now) = c.sanitise_into-n.ensures.0 in
-    status_done a.m a.block.now a.store.now a.text.now e w.few g _ (rw n) _ c.in_store-place.ensures _ c.sanitise_into-n.ensures.1
+    let g : a.m.mark + length (sanitised true a.text.now) ≤ a.m.room = omega (arith, w.mark, c.if-k-m.false) in
+    let n : c.sanitise_into.result ≡ length (sanitised true a.text.now) = c.sanitise_into.ensures.0 in
+    status_done a.m a.block.now a.store.now a.text.now e w.few g _ (rw n) _ c.in_store.ensures _ c.sanitise_into.ensures.1
 
-pub returns-else-k-room : goal.returns-else-k-room
-returns-else-k-room c =
+pub returns-then-k-m : goal.returns-then-k-m
+returns-then-k-m c =
     let a = c.args in
-    let e = sym c.in-Ok.is ∙ c.check_done-s.ensures in
+    let e = sym c.in-Ok.is ∙ c.check_done.ensures in
     let w = ready_of _ a.m a.block.now a.store.now e in
     let k : c.sanitised_length-k.result ≡ length (sanitised true a.text.now) = c.sanitised_length-k.ensures in
-    let g : a.m.room < a.m.mark + length (sanitised true a.text.now) = omega (arith, w.mark, c.if-k-room.false) in
-    status_room a.m a.block.now a.store.now a.text.now e w.few g
+    let g : a.m.room < a.m.mark + length (sanitised true a.text.now) = omega (arith, w.mark, c.if-k-m.true) in
+    rw c.refused.ensures (status_room a.m a.block.now a.store.now a.text.now e w.few g)
 
 pub returns-in-Err : goal.returns-in-Err
 unfolding statusing
-returns-in-Err c = edit_refused _ _ _ _ _ (sym c.in-Err.is ∙ c.check_done-s.ensures)
+returns-in-Err c = rw c.refused-in-Err.ensures (edit_refused _ _ _ _ _ (sym c.in-Err.is ∙ c.check_done.ensures))

@@ -15,7 +15,7 @@ find-requires c =
 pub returns : goal.returns
 returns c =
     let s = c.args in
-    c.find.ensures ∙ find_lent s.t.now s.h s.block.now s.store.now s.name.now (sym c.in_ok-check_done.was ∙ c.check_done.ensures)
+    ap Ok c.find.ensures ∙ find_lent s.t.now s.h s.block.now s.store.now s.name.now (sym c.in_ok-check_done.was ∙ c.check_done.ensures)
 
 pub returns-in_err-check_done : goal.returns-in_err-check_done
 returns-in_err-check_done c =

@@ -11,16 +11,16 @@ use Rattle.lent_edits.proofs.remove.Goals as goal
 pub compact-fields-requires : goal.compact-fields-requires
 compact-fields-requires c =
     let a = c.args in
-    let e = sym c.in-Ok.is ∙ c.check_done-s.ensures in
+    let e = sym c.in-Ok.is ∙ c.check_done.ensures in
     let w = ready_of _ (map_in a.t.now a.h) a.block.now a.store.now e in
     (search rules, w.few, c.requires, all_fit w)
 
 pub returns-in-Ok : goal.returns-in-Ok
 returns-in-Ok c =
     let a = c.args in
-    let e = sym c.in-Ok.is ∙ c.check_done-s.ensures in
-    remove_is (map_in a.t.now a.h) a.block.now a.store.now a.key.now e _ c.compact-fields.ensures _ c.changed-edited.ensures
+    let e = sym c.in-Ok.is ∙ c.check_done.ensures in
+    remove_is (map_in a.t.now a.h) a.block.now a.store.now a.key.now e _ c.compact-fields.ensures _ c.changed.ensures
 
 pub returns-in-Err : goal.returns-in-Err
 unfolding removing
-returns-in-Err c = edit_refused _ _ _ _ _ (sym c.in-Err.is ∙ c.check_done-s.ensures)
+returns-in-Err c = rw c.refused.ensures (edit_refused _ _ _ _ _ (sym c.in-Err.is ∙ c.check_done.ensures))

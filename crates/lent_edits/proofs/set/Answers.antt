@@ -9,13 +9,13 @@ use Rattle.lent_edits.proofs.set.Goals as goal
 pub first_at-at-requires : goal.first_at-at-requires
 first_at-at-requires c =
     let a = c.args in
-    let e = sym c.in-Ok.is ∙ c.check_done-s.ensures in
+    let e = sym c.in-Ok.is ∙ c.check_done.ensures in
     let w = ready_of _ (map_in a.t.now a.h) a.block.now a.store.now e in
     (w.few, c.requires)
 
 pub returns-in-Ok : goal.returns-in-Ok
-returns-in-Ok c = is_by (set_is _ _ _ _ _ (sym c.in-Ok.is ∙ c.check_done-s.ensures) _ c.first_at-at.ensures.0) c.put_at.ensures
+returns-in-Ok c = is_by (set_is _ _ _ _ _ (sym c.in-Ok.is ∙ c.check_done.ensures) _ c.first_at-at.ensures.0) c.put_at.ensures
 
 pub returns-in-Err : goal.returns-in-Err
 unfolding setting
-returns-in-Err c = edit_refused _ _ _ _ _ (sym c.in-Err.is ∙ c.check_done-s.ensures)
+returns-in-Err c = rw c.refused.ensures (edit_refused _ _ _ _ _ (sym c.in-Err.is ∙ c.check_done.ensures))

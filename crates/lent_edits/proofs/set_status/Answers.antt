@@ -11,48 +11,48 @@ use Prim.Native.Nat.{◌+◌, ◌≤◌, ◌<◌}
 use lib.ListN.{length}
 use Rattle.lent_edits.proofs.set_status.Goals as goal
 
-pub overflow_sub-room : goal.overflow_sub-room
-overflow_sub-room c =
+pub overflow_sub-h : goal.overflow_sub-h
+overflow_sub-h c =
     let a = c.args in
-    let e = sym c.in-Ok.is ∙ c.check_done-s.ensures in
+    let e = sym c.in-Ok.is ∙ c.check_done.ensures in
     let w = ready_of _ (map_in a.t.now a.h) a.block.now a.store.now e in
     w.mark
 
-pub sanitise_into-n-requires : goal.sanitise_into-n-requires
-sanitise_into-n-requires c =
+pub sanitise_into-requires : goal.sanitise_into-requires
+sanitise_into-requires c =
     let a = c.args in
-    let e = sym c.in-Ok.is ∙ c.check_done-s.ensures in
+    let e = sym c.in-Ok.is ∙ c.check_done.ensures in
     let w = ready_of _ (map_in a.t.now a.h) a.block.now a.store.now e in
     let k : c.sanitised_length-k.result ≡ length (sanitised true a.text.now) = c.sanitised_length-k.ensures in
-    omega (arith, w.mark, w.store, k, c.if-k-room.true)
+    omega (arith, w.mark, w.store, k, c.if-k-h.false)
 
-pub in_store-place-requires : goal.in_store-place-requires
-in_store-place-requires c =
+pub in_store-requires : goal.in_store-requires
+in_store-requires c =
     let a = c.args in
-    let e = sym c.in-Ok.is ∙ c.check_done-s.ensures in
+    let e = sym c.in-Ok.is ∙ c.check_done.ensures in
     let w = ready_of _ (map_in a.t.now a.h) a.block.now a.store.now e in
     let k : c.sanitised_length-k.result ≡ length (sanitised true a.text.now) = c.sanitised_length-k.ensures in
-    (omega (arith, w.mark, w.most), omega (arith, w.mark, w.most, k, c.if-k-room.true, c.sanitise_into-n.ensures.0))
+    (omega (arith, w.mark, w.most), omega (arith, w.mark, w.most, k, c.if-k-h.false, c.sanitise_into.ensures.0))
 
-pub returns-then-k-room : goal.returns-then-k-room
-returns-then-k-room c =
+pub returns-else-k-h : goal.returns-else-k-h
+returns-else-k-h c =
     let a = c.args in
-    let e = sym c.in-Ok.is ∙ c.check_done-s.ensures in
+    let e = sym c.in-Ok.is ∙ c.check_done.ensures in
     let w = ready_of _ (map_in a.t.now a.h) a.block.now a.store.now e in
     let k : c.sanitised_length-k.result ≡ length (sanitised true a.text.now) = c.sanitised_length-k.ensures in
-    let g : a.h.mark + length (sanitised true a.text.now) ≤ a.h.room = omega (arith, w.mark, k, c.if-k-room.true) in
-    let n : c.sanitise_into-n.result ≡ length (sanitised true a.text.now) = c.sanitise_into-n.ensures.0 in
-    status_done (map_in a.t.now a.h) a.block.now a.store.now a.text.now e w.few g _ (rw n) _ c.in_store-place.ensures _ c.sanitise_into-n.ensures.1
+    let g : a.h.mark + length (sanitised true a.text.now) ≤ a.h.room = omega (arith, w.mark, k, c.if-k-h.false) in
+    let n : c.sanitise_into.result ≡ length (sanitised true a.text.now) = c.sanitise_into.ensures.0 in
+    status_done (map_in a.t.now a.h) a.block.now a.store.now a.text.now e w.few g _ (rw n) _ c.in_store.ensures _ c.sanitise_into.ensures.1
 
-pub returns-else-k-room : goal.returns-else-k-room
-returns-else-k-room c =
+pub returns-then-k-h : goal.returns-then-k-h
+returns-then-k-h c =
     let a = c.args in
-    let e = sym c.in-Ok.is ∙ c.check_done-s.ensures in
+    let e = sym c.in-Ok.is ∙ c.check_done.ensures in
     let w = ready_of _ (map_in a.t.now a.h) a.block.now a.store.now e in
     let k : c.sanitised_length-k.result ≡ length (sanitised true a.text.now) = c.sanitised_length-k.ensures in
-    let g : a.h.room < a.h.mark + length (sanitised true a.text.now) = omega (arith, w.mark, k, c.if-k-room.false) in
-    status_room (map_in a.t.now a.h) a.block.now a.store.now a.text.now e w.few g
+    let g : a.h.room < a.h.mark + length (sanitised true a.text.now) = omega (arith, w.mark, k, c.if-k-h.true) in
+    rw c.refused.ensures (status_room (map_in a.t.now a.h) a.block.now a.store.now a.text.now e w.few g)
 
 pub returns-in-Err : goal.returns-in-Err
 unfolding statusing
-returns-in-Err c = edit_refused _ _ _ _ _ (sym c.in-Err.is ∙ c.check_done-s.ensures)
+returns-in-Err c = rw c.refused-in-Err.ensures (edit_refused _ _ _ _ _ (sym c.in-Err.is ∙ c.check_done.ensures))

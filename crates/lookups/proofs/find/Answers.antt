@@ -1,20 +1,22 @@
 -- `lookups::find` meets its contract. Assumes nothing.
-use Rattle.std.specs.Prelude.{Ok}
+use Rattle.std.proofs.lemmas.Result.{err_from_is_err_and}
+use Rattle.std.specs.Prelude.{Ok, Err}
 use Rattle.lookups.proofs.FoundLaws.{sight_at, sight_missing, sight_blind}
-use mathlib.Core.Path.{sym, ◌∙◌, ap}
+use mathlib.Core.Path.{sym, ap, ◌∙◌}
 use Rattle.lookups.proofs.find.Goals as goal
 
-pub returns-in-Ok-Some : goal.returns-in-Ok-Some
-returns-in-Ok-Some c =
+pub returns-in_err-i : goal.returns-in_err-i
+returns-in_err-i c =
     let a = c.args in
-    sym (sight_at a.m a.block.now a.store.now a.name.now a.from _ _ (sym c.sight-s.ensures ∙ (c.in-Ok-Some.is ∙ ap Ok (rw c.in-Ok-Some.is at c.in-Ok-Some.field-0-is))))
+    let p = err_from_is_err_and c.from_residual.result c.from_residual.ensures.1 in
+    p.1 ∙ ap Err p.2 ∙ sym (sight_blind a.m a.block.now a.store.now a.name.now a.from _ (sym c.sight.ensures ∙ c.in_err-i.was))
 
-pub returns-in-Ok-None : goal.returns-in-Ok-None
-returns-in-Ok-None c =
+pub returns-in-Some : goal.returns-in-Some
+returns-in-Some c =
     let a = c.args in
-    sym (sight_missing a.m a.block.now a.store.now a.name.now a.from (sym c.sight-s.ensures ∙ (c.in-Ok-None.is ∙ ap Ok (rw c.in-Ok-None.is at c.in-Ok-None.field-0-is))))
+    sym (sight_at a.m a.block.now a.store.now a.name.now a.from _ _ (sym c.sight.ensures ∙ c.in_ok-i.was ∙ ap Ok c.in-Some.is))
 
-pub returns-in-Err : goal.returns-in-Err
-returns-in-Err c =
+pub returns-in-None : goal.returns-in-None
+returns-in-None c =
     let a = c.args in
-    sym (sight_blind a.m a.block.now a.store.now a.name.now a.from _ (sym c.sight-s.ensures ∙ c.in-Err.is))
+    sym (sight_missing a.m a.block.now a.store.now a.name.now a.from (sym c.sight.ensures ∙ c.in_ok-i.was ∙ ap Ok c.in-None.is))

@@ -4,7 +4,7 @@ use mathlib.Core.Path.{sym, ◌∙◌}
 use Rattle.lookups.proofs.shown_status.Goals as goal
 
 pub returns-in-Ok : goal.returns-in-Ok
-returns-in-Ok c = sym (status_fine _ _ _ (sym c.in-Ok.is ∙ c.check_done-s.ensures))
+returns-in-Ok c = sym (status_fine _ _ _ (sym c.in-Ok.is ∙ c.check_done.ensures))
 
 pub returns-in-Err : goal.returns-in-Err
-returns-in-Err c = sym (status_refused _ _ _ _ (sym c.in-Err.is ∙ c.check_done-s.ensures))
+returns-in-Err c = sym (status_refused _ _ _ _ (sym c.in-Err.is ∙ c.check_done.ensures))

@@ -1,16 +1,20 @@
 -- `lookups::sight` meets its contract. Assumes nothing.
+use Rattle.std.proofs.lemmas.Result.{err_from_is_err_and}
+use Rattle.std.specs.Prelude.{Ok, Err}
 use Rattle.lookups.proofs.FoundLaws.{sight_fine, sight_refused}
 use Rattle.maps.proofs.GoodLaws.{ready_of}
-use mathlib.Core.Path.{sym, ◌∙◌}
+use mathlib.Core.Path.{sym, ap, ◌∙◌}
 use Rattle.lookups.proofs.sight.Goals as goal
 
-pub seek-requires : goal.seek-requires
-seek-requires c =
+pub returns-in_err-check_done : goal.returns-in_err-check_done
+returns-in_err-check_done c =
+    let p = err_from_is_err_and c.from_residual.result c.from_residual.ensures.1 in
+    p.1 ∙ ap Err p.2 ∙ sight_refused _ _ _ _ _ _ (sym c.in_err-check_done.was ∙ c.check_done.ensures)
+
+pub shared_ref_as_front-seek : goal.shared_ref_as_front-seek
+shared_ref_as_front-seek c =
     let a = c.args in
-    (ready_of _ a.m a.block.now a.store.now (sym c.in-Ok.is ∙ c.check_done-s.ensures)).few
+    (ready_of _ a.m a.block.now a.store.now (sym c.in_ok-check_done.was ∙ c.check_done.ensures)).few
 
-pub returns-in-Ok : goal.returns-in-Ok
-returns-in-Ok c = c.seek.ensures ∙ sym (sight_fine _ _ _ _ _ (sym c.in-Ok.is ∙ c.check_done-s.ensures))
-
-pub returns-in-Err : goal.returns-in-Err
-returns-in-Err c = sym (sight_refused _ _ _ _ _ _ (sym c.in-Err.is ∙ c.check_done-s.ensures))
+pub returns : goal.returns
+returns c = ap Ok c.seek.ensures ∙ sight_fine _ _ _ _ _ (sym c.in_ok-check_done.was ∙ c.check_done.ensures)

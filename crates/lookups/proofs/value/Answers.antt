@@ -6,5 +6,5 @@ use Rattle.lookups.proofs.value.Goals as goal
 
 pub returns-in-Some : goal.returns-in-Some
 returns-in-Some c =
-    let e = sym c.slot_at-s.ensures ∙ c.in-Some.is in
+    let e = sym c.slot_at.ensures ∙ c.in-Some.is in
     hands_part _ _ _ _ _ _ (ap value_in e) (slot_within _ _ _ _ _ e).1 c.part.ensures

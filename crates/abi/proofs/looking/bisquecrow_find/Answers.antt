@@ -1,5 +1,5 @@
 -- `abi::looking::bisquecrow_find` meets its contract. Assumes nothing.
-use Rattle.abi.proofs.CallLaws.{opens, few, sought, seek_below, sees_fine, sees_refused}
+use Rattle.abi.proofs.CallLaws.{opens, few, sought, seek_below, sees_fine, sees_refused, seen_of}
 use Rattle.lookups.specs.Lookups.{named}
 use Rattle.lent.proofs.LentLaws.{sound_parts, sound_long}
 use mathlib.Core.Path.{sym, ◌∙◌}
@@ -26,7 +26,7 @@ returns-in-Ok c =
     let s = c.args in
     let o = sym c.in-Ok.is ∙ c.«open».ensures in
     let e = rw c.head_at-h.ensures at c.find-found.ensures in
-    sees_fine _ _ _ _ _ _ _ _ _ _ _ _ _ _ o (e ∙ sought s.head.now s.table.now s.block.now s.store.now o (named s.block.now s.store.now s.name.now) s.start) (rw c.head_at-h.ensures at c.put_found.ensures)
+    sees_fine _ _ _ _ _ _ _ _ _ _ _ _ _ _ o (e ∙ sought s.head.now s.table.now s.block.now s.store.now o (named s.block.now s.store.now s.name.now) s.start) (seen_of s.table.now c.head_at-h.ensures s.number.now s.from.now s.to.now c.find-found.result c.put_found.ensures)
 
 pub returns-in-Err : goal.returns-in-Err
 returns-in-Err c = sees_refused _ _ _ _ _ _ _ _ _ _ _ (sym c.in-Err.is ∙ c.«open».ensures) c.refused.ensures

@@ -7,6 +7,3 @@ use Rattle.lent.proofs.tables.find.Given as goal
 
 abbrev pub invariant-loop-i : goal.invariant-loop-i
 invariant-loop-i l = (seeking (named l.block l.store l.name) l.from (fields_from l.t l.from (l.n - l.from)) ≡ seeking (named l.block l.store l.name) l.i (fields_from l.t l.i (l.n - l.i)))
-
-abbrev pub decreases-loop-i : goal.decreases-loop-i
-decreases-loop-i l = l.n - l.i

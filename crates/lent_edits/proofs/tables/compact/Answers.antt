@@ -17,14 +17,14 @@ loop-i-preserved-then-matches_sanitised c =
     let h : l.i < c.args.n = c.loop-i-test.true in
     let p = named c.args.block.now c.args.store.now (sanitised true c.args.key.now) in
     let e = sym (c.matches_sanitised.ensures ∙ ap (λ (x : List ℕ). same_name x (sanitised true c.args.key.now)) c.part-text.ensures.is) ∙ c.if-matches_sanitised.true in
-    thin_drop p c.args.t.now c.args.start c.args.n c.requires.1 l.t l.k l.i l.invariant h _ c.field_at-f.ensures e
+    thin_drop p c.args.t.now c.args.start c.args.n c.requires.1 l.t l.k l.i l.invariant h _ c.field_at-field.ensures e
 
 pub put_field-requires : goal.put_field-requires
 put_field-requires c =
     let l = c.loop-i in
     let h : l.i < c.args.n = c.loop-i-test.true in
     let p = named c.args.block.now c.args.store.now (sanitised true c.args.key.now) in
-    (omega (arith, l.invariant.keeping.order, h, c.requires.1), l.invariant.long, thin_fit p c.args.t.now c.args.start c.args.n c.requires.1 l.t l.k l.i l.invariant h _ c.field_at-f.ensures c.requires.3)
+    (omega (arith, l.invariant.keeping.order, h, c.requires.1), l.invariant.long, thin_fit p c.args.t.now c.args.start c.args.n c.requires.1 l.t l.k l.i l.invariant h _ c.field_at-field.ensures c.requires.3)
 
 pub loop-i-preserved : goal.loop-i-preserved
 unfolding named
@@ -33,7 +33,7 @@ loop-i-preserved c =
     let h : l.i < c.args.n = c.loop-i-test.true in
     let p = named c.args.block.now c.args.store.now (sanitised true c.args.key.now) in
     let e = sym (c.matches_sanitised.ensures ∙ ap (λ (x : List ℕ). same_name x (sanitised true c.args.key.now)) c.part-text.ensures.is) ∙ c.if-matches_sanitised.false in
-    thin_move p c.args.t.now c.args.start c.args.n c.requires.1 l.t l.k l.i l.invariant h _ c.field_at-f.ensures c.requires.3 e _ c.put_field.ensures
+    thin_move p c.args.t.now c.args.start c.args.n c.requires.1 l.t l.k l.i l.invariant h _ c.field_at-field.ensures c.requires.3 e _ c.put_field.ensures
 
 pub returns : goal.returns
 returns c =

@@ -3,11 +3,7 @@ use Rattle.leaves.specs.Sanitise.{sanitised}
 use Rattle.lookups.specs.Lookups.{named}
 use Rattle.lent_edits.proofs.ThinLaws.{Thinning}
 use mathlib.Core.Bool.{true}
-use Prim.Native.Nat.{◌-◌}
 use Rattle.lent_edits.proofs.tables.compact.Given as goal
 
 abbrev pub invariant-loop-i : goal.invariant-loop-i
 invariant-loop-i l = Thinning (named l.block l.store (sanitised true l.key)) l.initial.t l.start l.n l.t l.k l.i
-
-abbrev pub decreases-loop-i : goal.decreases-loop-i
-decreases-loop-i l = l.n - l.i
