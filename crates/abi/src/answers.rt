@@ -1,13 +1,9 @@
 // What each call answers, as a number: 0 for done, 1 to 13 for the refusals, the others from 64 on.
 ghost use Rattle.std.specs.Prelude.{◌≡◌};
+ghost use Rattle.leaves.specs.Answers.{done_or, yes_or, found_or};
 ghost use Rattle.leaves.specs.Refusals.{number};
-ghost use Rattle.maps.specs.Answers.{told as checkedOf};
 ghost use Rattle.reader.specs.Answers.{told as answer_of};
-ghost use Rattle.edits.specs.Answers.{told as editOf};
-ghost use Rattle.writes.specs.Answers.{told as wroteOf};
-ghost use Rattle.equals.specs.Answers.{told as equal_of};
-ghost use Rattle.tidy.specs.Answers.{told as test_of};
-ghost use Rattle.codes.specs.Answers.{code_answer as code_of, length_answer as length_of, kind_answer as kind_of};
+ghost use Rattle.codes.specs.Answers.{kind_answer as kind_of};
 ghost use Rattle.walker.specs.Answers.{told as step_of, start_answer};
 ghost use Rattle.resume.specs.Answers.{told as verdictOf};
 
@@ -22,6 +18,8 @@ pub const DONE: u32 = 0;
 // Numbers that are no map's or no walker's.
 pub const DAMAGED: u32 = 3;
 
+pub const FOUND: u32 = 67;
+
 pub const MISSING: u32 = 68;
 
 pub const YES: u32 = 69;
@@ -35,15 +33,37 @@ pub const IN_STORE: u32 = 72;
 pub fn refused(e: Refusal) -> u32
     ensures { result ≡ number e }
 {
-    let n = refusals::number(e);
-    n as u32
+    u32::from(refusals::number(e))
 }
 
-pub fn checked(c: Result<(), Refusal>) -> u32
-    ensures { result ≡ checkedOf c }
+// Done, whatever it comes with.
+pub fn done<T: Copy>(r: Result<T, Refusal>) -> u32
+    ensures { result ≡ done_or r }
 {
-    match c {
-        Ok(()) => 0,
+    match r {
+        Ok(_) => DONE,
+        Err(e) => refused(e),
+    }
+}
+
+// Yes or no.
+pub fn told(r: Result<bool, Refusal>) -> u32
+    ensures { result ≡ yes_or r }
+{
+    match r {
+        Ok(true) => YES,
+        Ok(false) => NO,
+        Err(e) => refused(e),
+    }
+}
+
+// Found or missing.
+pub fn found<T: Copy>(r: Result<Option<T>, Refusal>) -> u32
+    ensures { result ≡ found_or r }
+{
+    match r {
+        Ok(Some(_)) => FOUND,
+        Ok(None) => MISSING,
         Err(e) => refused(e),
     }
 }
@@ -59,69 +79,11 @@ pub fn read(a: Result<Answer, Refusal>) -> u32
     }
 }
 
-pub fn edited(e: Result<(), Refusal>) -> u32
-    ensures { result ≡ editOf e }
-{
-    match e {
-        Ok(()) => 0,
-        Err(x) => refused(x),
-    }
-}
-
-pub fn wrote(w: Result<usize, Refusal>) -> u32
-    ensures { result ≡ wroteOf w }
-{
-    match w {
-        Ok(n) => 0,
-        Err(e) => refused(e),
-    }
-}
-
-pub fn compared(e: Result<bool, Refusal>) -> u32
-    ensures { result ≡ equal_of e }
-{
-    match e {
-        Ok(true) => 69,
-        Ok(false) => 70,
-        Err(x) => refused(x),
-    }
-}
-
-pub fn tested(t: Result<bool, Refusal>) -> u32
-    ensures { result ≡ test_of t }
-{
-    match t {
-        Ok(true) => 69,
-        Ok(false) => 70,
-        Err(x) => refused(x),
-    }
-}
-
-pub fn coded(c: Result<Option<u16>, Refusal>) -> u32
-    ensures { result ≡ code_of c }
-{
-    match c {
-        Ok(Some(n)) => 67,
-        Ok(None) => 68,
-        Err(x) => refused(x),
-    }
-}
-
-pub fn measured(l: Result<Option<u64>, Refusal>) -> u32
-    ensures { result ≡ length_of l }
-{
-    match l {
-        Ok(Some(n)) => 67,
-        Ok(None) => 68,
-        Err(x) => refused(x),
-    }
-}
-
 pub fn typed(k: Result<u16, Refusal>) -> u32
     ensures { result ≡ kind_of k }
 {
     match k {
-        Ok(n) => 67,
+        Ok(_) => FOUND,
         Err(x) => refused(x),
     }
 }

@@ -22,7 +22,7 @@ pub fn bisquecrow_set(
         let new = edited.head;
         let answer = edited.answer;
         heads::put_head(head, new);
-        return answers::edited(answer);
+        return answers::done(answer);
     }
     answers::DAMAGED
 }
@@ -43,7 +43,7 @@ pub fn bisquecrow_append(
         let new = edited.head;
         let answer = edited.answer;
         heads::put_head(head, new);
-        return answers::edited(answer);
+        return answers::done(answer);
     }
     answers::DAMAGED
 }
@@ -64,7 +64,7 @@ pub fn bisquecrow_remove<'a>(
         let new = edited.head;
         let answer = edited.answer;
         heads::put_head(head, new);
-        return answers::edited(answer);
+        return answers::done(answer);
     }
     answers::DAMAGED
 }
@@ -84,7 +84,7 @@ pub fn bisquecrow_set_status(
         let new = edited.head;
         let answer = edited.answer;
         heads::put_head(head, new);
-        return answers::edited(answer);
+        return answers::done(answer);
     }
     answers::DAMAGED
 }

@@ -85,7 +85,7 @@ pub fn bisquecrow_clear(head: &mut [u64], table: &[u32], block: &[u8], store: &[
         let new = made.head;
         let answer = made.answer;
         heads::put_head(head, new);
-        return answers::checked(answer);
+        return answers::done(answer);
     }
     answers::DAMAGED
 }

@@ -32,7 +32,7 @@ pub fn bisquecrow_status_code<'a>(
         let h = heads::head_at(head);
         let c = lent_codes::status_code(h, table, block, store);
         put_code(c, code);
-        return answers::coded(c);
+        return answers::found(c);
     }
     answers::DAMAGED
 }
@@ -63,7 +63,7 @@ pub fn bisquecrow_content_length<'a>(
         let h = heads::head_at(head);
         let l = lent_codes::content_length(h, table, block, store);
         put_length(l, length);
-        return answers::measured(l);
+        return answers::found(l);
     }
     answers::DAMAGED
 }
@@ -105,7 +105,7 @@ pub fn bisquecrow_clean<'a>(head: &[u64], table: &[u32], block: &'a [u8], store:
     if lent::is_sound(head, table) {
         let m = lent::live_at(head, table);
         let t = tidy::clean(m, block, store);
-        return answers::tested(t);
+        return answers::told(t);
     }
     answers::DAMAGED
 }
@@ -115,7 +115,7 @@ pub fn bisquecrow_tidy(octets: &[u8], awaits: bool, quirks: bool, limit: usize) 
     ensures { result ≡ tidy_tells octets.now awaits quirks limit }
 {
     let t = tidy::tidy(octets, awaits, quirks, limit);
-    answers::tested(t)
+    answers::told(t)
 }
 
 // Whether octets are a header by the standard's grammar.
@@ -147,7 +147,7 @@ pub fn bisquecrow_equal<'a>(
                 let one = lent::live_at(head, table);
                 let two = lent::live_at(head2, table2);
                 let e = equals::compare(one, block, store, two, block2, store2);
-                return answers::compared(e);
+                return answers::told(e);
             }
             answers::DAMAGED
         }

@@ -32,7 +32,7 @@ pub fn bisquecrow_write<'a>(
         let h = heads::head_at(head);
         let w = lent_writes::write(h, table, block, store, out);
         put_count(w, count);
-        return answers::wrote(w);
+        return answers::done(w);
     }
     answers::DAMAGED
 }
@@ -52,7 +52,7 @@ pub fn bisquecrow_rebuild<'a>(
         let h = heads::head_at(head);
         let w = lent_writes::rebuild(h, table, block, store, out);
         put_count(w, count);
-        return answers::wrote(w);
+        return answers::done(w);
     }
     answers::DAMAGED
 }

@@ -1,4 +1,5 @@
 -- Status code, content length and record type as answers with a number. Assumes nothing.
+use Rattle.leaves.specs.Answers.{found_or}
 use Rattle.leaves.specs.declared.refusals.Refusal.{Refusal}
 use Rattle.std.specs.Prelude.{ℕ, Bool, Err, None, Ok, Option, Result, Some, false, true}
 use Rattle.leaves.specs.Numbers.{found, missing}
@@ -6,15 +7,11 @@ use Rattle.leaves.specs.Refusals.{number}
 
 -- a code, or "else none"
 abbrev pub code_answer : Result (Option ℕ) Refusal → ℕ
-code_answer (Ok (Some n)) = found
-code_answer (Ok None) = missing
-code_answer (Err e) = number e
+code_answer r = found_or r
 
 -- a content length, or no such field
 abbrev pub length_answer : Result (Option ℕ) Refusal → ℕ
-length_answer (Ok (Some n)) = found
-length_answer (Ok None) = missing
-length_answer (Err e) = number e
+length_answer r = found_or r
 
 -- a record type; "no field 0"
 abbrev pub kind_answer : Result ℕ Refusal → ℕ

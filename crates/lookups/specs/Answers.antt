@@ -1,4 +1,5 @@
 -- A lookup's answer as a number. Assumes nothing.
+use Rattle.leaves.specs.Answers.{found_or}
 use Rattle.leaves.specs.declared.refusals.Refusal.{Refusal}
 use Rattle.std.specs.Prelude.{ℕ, Err, None, Ok, Option, Result, Some}
 use Rattle.leaves.specs.Numbers.{found, missing}
@@ -6,6 +7,4 @@ use Rattle.leaves.specs.Refusals.{number}
 
 -- "A lookup from a given field number on gives missing or a field number."
 abbrev pub told : Result (Option ℕ) Refusal → ℕ
-told (Ok (Some i)) = found
-told (Ok None) = missing
-told (Err e) = number e
+told r = found_or r

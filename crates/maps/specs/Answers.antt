@@ -1,4 +1,5 @@
 -- The first checks as a number. Assumes nothing.
+use Rattle.leaves.specs.Answers.{done_or}
 use Rattle.leaves.specs.declared.refusals.Refusal.{Refusal}
 use Rattle.std.specs.Prelude.{ℕ, Err, Ok, Result, ⊤}
 use Rattle.leaves.specs.Numbers.{done}
@@ -6,5 +7,4 @@ use Rattle.leaves.specs.Refusals.{number}
 
 -- what the first checks say
 abbrev pub told : Result ⊤ Refusal → ℕ
-told (Ok _) = done
-told (Err e) = number e
+told r = done_or r

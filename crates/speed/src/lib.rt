@@ -139,9 +139,9 @@ pub extern "C" fn speed_write(
     let m = map_of(block, store, text);
     for _ in 0..times {
         if rebuilt {
-            writes::rebuild(m, block, store, out);
+            let _ = writes::rebuild(m, block, store, out);
         } else {
-            writes::write(m, block, store, out);
+            let _ = writes::write(m, block, store, out);
         }
     }
     m.fields

@@ -1,4 +1,5 @@
 -- A test's answer as a number. Assumes nothing.
+use Rattle.leaves.specs.Answers.{yes_or}
 use Rattle.leaves.specs.declared.refusals.Refusal.{Refusal}
 use Rattle.std.specs.Prelude.{ℕ, Bool, Err, Ok, Result, false, true}
 use Rattle.leaves.specs.Numbers.{yes, other}
@@ -6,6 +7,4 @@ use Rattle.leaves.specs.Refusals.{number}
 
 -- "all answer yes or no"
 abbrev pub told : Result Bool Refusal → ℕ
-told (Ok true) = yes
-told (Ok false) = other
-told (Err e) = number e
+told r = yes_or r

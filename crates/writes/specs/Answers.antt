@@ -1,4 +1,5 @@
 -- The answer of a call that writes, as a number. Assumes nothing.
+use Rattle.leaves.specs.Answers.{done_or}
 use Rattle.leaves.specs.declared.refusals.Refusal.{Refusal}
 use Rattle.std.specs.Prelude.{ℕ, Err, Ok, Result}
 use Rattle.leaves.specs.Numbers.{done}
@@ -6,5 +7,4 @@ use Rattle.leaves.specs.Refusals.{number}
 
 -- "Both answer the count"
 abbrev pub told : Result ℕ Refusal → ℕ
-told (Ok n) = done
-told (Err e) = number e
+told r = done_or r
