@@ -19,10 +19,8 @@ pub fn bisquecrow_set(
     if lent::is_sound(head, table) {
         let h = heads::head_at(head);
         let edited = lent_edits::set(h, table, block, store, key, value);
-        let new = edited.head;
-        let answer = edited.answer;
-        heads::put_head(head, new);
-        return answers::done(answer);
+        heads::put_head(head, edited.head);
+        return answers::done(edited.answer);
     }
     answers::DAMAGED
 }
@@ -40,10 +38,8 @@ pub fn bisquecrow_append(
     if lent::is_sound(head, table) {
         let h = heads::head_at(head);
         let edited = lent_edits::append(h, table, block, store, key, value);
-        let new = edited.head;
-        let answer = edited.answer;
-        heads::put_head(head, new);
-        return answers::done(answer);
+        heads::put_head(head, edited.head);
+        return answers::done(edited.answer);
     }
     answers::DAMAGED
 }
@@ -61,10 +57,8 @@ pub fn bisquecrow_remove<'a>(
     if lent::is_sound(head, table) {
         let h = heads::head_at(head);
         let edited = lent_edits::remove(h, table, block, store, key);
-        let new = edited.head;
-        let answer = edited.answer;
-        heads::put_head(head, new);
-        return answers::done(answer);
+        heads::put_head(head, edited.head);
+        return answers::done(edited.answer);
     }
     answers::DAMAGED
 }
@@ -81,10 +75,8 @@ pub fn bisquecrow_set_status(
     if lent::is_sound(head, table) {
         let h = heads::head_at(head);
         let edited = lent_edits::set_status(h, table, block, store, text);
-        let new = edited.head;
-        let answer = edited.answer;
-        heads::put_head(head, new);
-        return answers::done(answer);
+        heads::put_head(head, edited.head);
+        return answers::done(edited.answer);
     }
     answers::DAMAGED
 }

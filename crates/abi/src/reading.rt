@@ -50,11 +50,9 @@ pub fn bisquecrow_feed(
     if lent::is_sound(head, table) {
         let h = heads::head_at(head);
         let fed = lent_reader::feed(h, table, block, store, piece);
-        let new = fed.head;
-        let answer = fed.answer;
-        heads::put_head(head, new);
+        heads::put_head(head, fed.head);
         *taken = fed.taken as u64;
-        return answers::read(answer);
+        return answers::read(fed.answer);
     }
     *taken = 0;
     answers::DAMAGED
@@ -67,10 +65,8 @@ pub fn bisquecrow_finish(head: &mut [u64], table: &mut [u32], block: &[u8], stor
     if lent::is_sound(head, table) {
         let h = heads::head_at(head);
         let fed = lent_reader::finish(h, table, block, store);
-        let new = fed.head;
-        let answer = fed.answer;
-        heads::put_head(head, new);
-        return answers::read(answer);
+        heads::put_head(head, fed.head);
+        return answers::read(fed.answer);
     }
     answers::DAMAGED
 }
@@ -82,10 +78,8 @@ pub fn bisquecrow_clear(head: &mut [u64], table: &[u32], block: &[u8], store: &[
     if lent::is_sound(head, table) {
         let h = heads::head_at(head);
         let made = lent_reader::clear(h, table, block, store);
-        let new = made.head;
-        let answer = made.answer;
-        heads::put_head(head, new);
-        return answers::done(answer);
+        heads::put_head(head, made.head);
+        return answers::done(made.answer);
     }
     answers::DAMAGED
 }
