@@ -26,16 +26,10 @@ pub fn ends_block(line: &[u8], quirks: bool) -> bool
     ensures { result ≡ ends_block quirks line.now }
 {
     if quirks {
-        let at = trims::trim_bounds(line);
-        return at.end == 0;
+        trims::trim_bounds(line).end == 0
+    } else {
+        line == b"\r\n".as_slice()
     }
-    if line.len() == 2 {
-        if line[0] == 13 {
-            return line[1] == 10;
-        }
-        return false;
-    }
-    false
 }
 
 // The place of the blank-free part of a line that stands in the block at start.
@@ -44,23 +38,14 @@ fn trimmed_place(line: &[u8], start: usize) -> Place
     ensures { result ≡ trimmed_at start line.now }
 {
     let at = trims::trim_bounds(line);
-    let a = at.start;
-    let e = at.end;
-    maps::in_block(start + a, start + e)
+    maps::in_block(start + at.start, start + at.end)
 }
 
 // Whether a line continues the last value.
 fn is_fold(line: &[u8]) -> bool
     ensures { result ≡ continues line.now }
 {
-    if line.len() == 0 {
-        return false;
-    }
-    let x = line[0];
-    if x == 32 {
-        return true;
-    }
-    x == 9
+    matches!(line.first(), Some(32 | 9))
 }
 
 // How many octets stand before the first colon.
@@ -76,16 +61,16 @@ fn name_line(line: &[u8], start: usize, fields: usize, mark: usize) -> Result<Ch
     ensures { split start line.now fields mark ≡ plain result }
 {
     let c = colon(line);
-    if c < line.len() {
-        if fields < 256 {
-            let after = c + 1;
-            let key = trimmed_place(&line[..c], start);
-            let value = trimmed_place(&line[after..], start + after);
-            return Ok(Change::Put(fields, Field { key, value }, mark));
-        }
+    if c >= line.len() {
+        return Ok(Change::Nothing);
+    }
+    if fields >= 256 {
         return Err(Refusal::FieldsFull);
     }
-    Ok(Change::Nothing)
+    let after = c + 1;
+    let key = trimmed_place(&line[..c], start);
+    let value = trimmed_place(&line[after..], start + after);
+    Ok(Change::Put(fields, Field { key, value }, mark))
 }
 
 // Writes a text into the store at a place.
@@ -101,13 +86,7 @@ fn copy_within(store: &mut [u8], from: usize, end: usize, to: usize)
     requires { (from ≤ «end») × («end» ≤ to) × (to + («end» - from) ≤ length store.old) }
     ensures { store.new ≡ pasted store.old to (take («end» - from) (drop from store.old)) }
 {
-    let k = end - from;
-    let mut i = 0;
-    while i < k {
-        let x = store[from + i];
-        store[to + i] = x;
-        i += 1;
-    }
+    store.copy_within(from..end, to);
 }
 
 // Writes a space and a text into the store at a place.
@@ -234,8 +213,7 @@ fn fold_line(
     }
     let slot = fields - 1;
     let key = last.key;
-    let value = last.value;
-    match value {
+    match last.value {
         Place::Block(a, e) => {
             let from = maps::wide(a.0);
             let end = maps::wide(e.0);
@@ -285,13 +263,7 @@ pub fn rule_four(
 fn is_tight_field(line: &[u8], c: usize, awaits: bool, fields: usize) -> bool
     ensures { result ≡ (not awaits && (ltb fields 256 && tight c line.now)) }
 {
-    if awaits {
-        return false;
-    }
-    if fields < 256 {
-        return lines::is_tight(line, c);
-    }
-    false
+    !awaits && fields < 256 && lines::is_tight(line, c)
 }
 
 // The field of a tight line of n octets that stands in the block at start, with its colon at c.

@@ -37,11 +37,8 @@ fn put_change(t: &mut [u32], change: Result<Change, Refusal>)
     requires { (length t.old ≡ 1024) × Puts change }
     ensures { table_of t.new ≡ put_in (table_of t.old) change }
 {
-    match change {
-        Ok(Change::Nothing) => {}
-        Ok(Change::Status(p)) => {}
-        Ok(Change::Put(slot, x, mark)) => tables::put_field(t, slot, x),
-        Err(e) => {}
+    if let Ok(Change::Put(slot, x, _)) = change {
+        tables::put_field(t, slot, x);
     }
 }
 
@@ -58,16 +55,14 @@ fn feed_lines(h: Head, t: &mut [u32], block: &mut [u8], store: &mut [u8], piece:
         let slot = line_reader::last_of(now.fields);
         let last = tables::field_at(t, slot);
         let handled = line_reader::handle_next(now, last, block, store, piece, at);
-        let change = handled.change;
-        put_change(t, change);
+        put_change(t, handled.change);
         now = handled.head;
         at = handled.taken;
         answer = handled.answer;
         going = handled.going;
     }
-    let head = reader::head_after(answer, now);
     FedHead {
-        head,
+        head: reader::head_after(answer, now),
         taken: at,
         answer,
     }
@@ -78,8 +73,7 @@ pub fn feed(h: Head, t: &mut [u32], block: &mut [u8], store: &mut [u8], piece: &
     requires { length t.old ≡ 1024 }
     ensures { Is (feeding (map_in t.old h) block.old store.old piece.now) (fed_in t.new result) block.new store.new }
 {
-    let phase = h.phase;
-    let ready = maps::is_reading(phase);
+    let ready = maps::is_reading(h.phase);
     match lent::check(h, t, ready, block.len(), store.len()) {
         Ok(()) => feed_lines(h, t, block, store, piece),
         Err(e) => FedHead {
@@ -97,16 +91,12 @@ fn finish_line(h: Head, t: &mut [u32], block: &[u8], store: &mut [u8]) -> FedHea
 {
     let slot = line_reader::last_of(h.fields);
     let last = tables::field_at(t, slot);
-    let handled = line_reader::handle_last(h, last, block, store);
-    let change = handled.change;
-    put_change(t, change);
-    let answer = handled.answer;
-    let left = handled.head;
-    let head = reader::head_after(answer, left);
+    let ended = line_reader::handle_last(h, last, block, store);
+    put_change(t, ended.change);
     FedHead {
-        head,
+        head: reader::head_after(ended.answer, ended.head),
         taken: 0,
-        answer,
+        answer: ended.answer,
     }
 }
 
@@ -115,8 +105,7 @@ pub fn finish(h: Head, t: &mut [u32], block: &[u8], store: &mut [u8]) -> FedHead
     requires { length t.old ≡ 1024 }
     ensures { Is (finishing (map_in t.old h) block.now store.old) (fed_in t.new result) block.now store.new }
 {
-    let phase = h.phase;
-    let ready = maps::is_reading(phase);
+    let ready = maps::is_reading(h.phase);
     match lent::check(h, t, ready, block.len(), store.len()) {
         Ok(()) => finish_line(h, t, block, store),
         Err(e) => FedHead {
@@ -140,13 +129,10 @@ pub fn begin(
     ensures { (T : List Field) → Is (beginning (under T h) limit room awaits quirks block.now store.now) (made_in T result) block.now store.now }
 {
     match reader::check_rooms(limit, room, block.len(), store.len()) {
-        Ok(()) => {
-            let head = reader::empty_head(limit, room, awaits, quirks, Phase::Reading);
-            MadeHead {
-                head,
-                answer: Ok(()),
-            }
-        }
+        Ok(()) => MadeHead {
+            head: reader::empty_head(limit, room, awaits, quirks, Phase::Reading),
+            answer: Ok(()),
+        },
         Err(e) => MadeHead {
             head: h,
             answer: Err(e),
@@ -160,13 +146,10 @@ pub fn clear(h: Head, t: &[u32], block: &[u8], store: &[u8]) -> MadeHead
     ensures { Is (clearing (map_in t.now h) block.now store.now) (made_in (table_of t.now) result) block.now store.now }
 {
     match lent::check(h, t, true, block.len(), store.len()) {
-        Ok(()) => {
-            let head = reader::empty_head(h.limit, h.room, false, false, Phase::Done);
-            MadeHead {
-                head,
-                answer: Ok(()),
-            }
-        }
+        Ok(()) => MadeHead {
+            head: reader::empty_head(h.limit, h.room, false, false, Phase::Done),
+            answer: Ok(()),
+        },
         Err(e) => MadeHead {
             head: h,
             answer: Err(e),

@@ -28,7 +28,7 @@ pub struct WalkedHead {
 }
 
 // A pass over the first n fields of a table.
-fn spot<'a>(t: &[u32], n: usize, block: &'a [u8], store: &'a [u8]) -> Spots
+fn spot(t: &[u32], n: usize, block: &[u8], store: &[u8]) -> Spots
     requires { (n ≤ 256) × (length t.now ≡ 1024) }
     ensures { result ≡ spotted block.now store.now (table_of t.now) n }
 {
@@ -37,25 +37,15 @@ fn spot<'a>(t: &[u32], n: usize, block: &'a [u8], store: &'a [u8]) -> Spots
         length: none,
         kind: none,
     };
-    let mut i = 0;
-    while i < n {
+    for i in 0..n {
         let f = tables::field_at(t, i);
-        let p = f.key;
-        let key = maps::part(block, store, p);
-        z = openings::note(z, key, i);
-        i += 1;
+        z = openings::note(z, maps::part(block, store, f.key), i);
     }
-    let a = z.length;
-    let e = z.kind;
-    let x = tables::field_at(t, a.at);
-    let y = tables::field_at(t, e.at);
-    let length = x.value;
-    let kind = y.value;
     Spots {
-        lengths: a.times,
-        length,
-        kinds: e.times,
-        kind,
+        lengths: z.length.times,
+        length: tables::field_at(t, z.length.at).value,
+        kinds: z.kind.times,
+        kind: tables::field_at(t, z.kind.at).value,
     }
 }
 
@@ -69,9 +59,8 @@ fn open_good<'a>(
     requires { (length t.now ≡ 1024) × (Ok tt ≡ checked_done (map_in t.now h) block.now store.now) }
     ensures { result ≡ openingOf (map_in t.now h) block.now store.now }
 {
-    let status = h.status;
     let z = spot(t, h.fields, block, store);
-    openings::open_spots(status, z, block, store)
+    openings::open_spots(h.status, z, block, store)
 }
 
 // What an answer comes to. A map that was just fed was judged, and is good.
@@ -85,29 +74,21 @@ fn comes_to<'a>(
     requires { (length t.now ≡ 1024) × Judged answer (map_in t.now h) block.now store.now }
     ensures { result ≡ headed_by answer (openingOf (map_in t.now h) block.now store.now) }
 {
-    match answer {
-        Ok(Answer::More) => Ok(Headed::Goes),
-        Ok(Answer::Blank) => {
-            let o = open_good(h, t, block, store);
-            Ok(Headed::Opens(o))
-        }
-        Ok(Answer::Input) => Ok(Headed::Input),
-        Err(e) => Err(e),
+    match answer? {
+        Answer::More => Ok(Headed::Goes),
+        Answer::Blank => Ok(Headed::Opens(open_good(h, t, block, store))),
+        Answer::Input => Ok(Headed::Input),
     }
 }
 
 fn with_head(h: Head, r: Trailed) -> WalkedHead
     ensures { result ≡ with_head h r }
 {
-    let trail = r.trail;
-    let kept = r.kept;
-    let step = r.step;
-    let head = turns::kept_head(h, kept);
     WalkedHead {
-        trail,
-        head,
+        trail: r.trail,
+        head: turns::kept_head(h, r.kept),
         taken: r.taken,
-        step,
+        step: r.step,
     }
 }
 
@@ -116,8 +97,7 @@ fn check_map(h: Head, t: &[u32], stage: Stage, block: usize, store: usize) -> Re
     requires { length t.now ≡ 1024 }
     ensures { result ≡ checked (ready_at stage h.phase) (map_in t.now h) block store }
 {
-    let phase = h.phase;
-    let ready = turns::ready_at(stage, phase);
+    let ready = turns::ready_at(stage, h.phase);
     lent::check(h, t, ready, block, store)
 }
 
@@ -136,17 +116,15 @@ fn read_header(
     ensures { Is (header_read (walker_in t.old h trail) (map_in t.old h) start k block.old store.old piece.now) (walked_in t.new result) block.new store.new }
 {
     let fed = lent_reader::feed(h, t, block, store, &piece[0..k]);
-    let head = fed.head;
     let taken = fed.taken;
-    let answer = fed.answer;
-    let came = comes_to(answer, head, t, block, store);
+    let came = comes_to(fed.answer, fed.head, t, block, store);
     let onward = Trail {
         position: trail.position + (taken as u64),
         start,
         ..trail
     };
     let r = turns::behind_header(came, onward, taken, k, piece.len());
-    with_head(head, r)
+    with_head(fed.head, r)
 }
 
 // A walker's start over any table; refused, the head is left as it was.
@@ -154,38 +132,29 @@ pub fn start(h: Head, room: usize, position: u64, block: &[u8], store: &[u8]) ->
     ensures { Starts h room position block.now store.now result }
 {
     let made = lent_reader::begin(h, maps::DEFAULT_LIMIT, room, false, false, block, store);
-    let begun = made.head;
-    let answer = made.answer;
-    match answer {
-        Ok(()) => {
-            let trail = Trail {
+    match made.answer {
+        Ok(()) => WalkedHead {
+            trail: Trail {
                 position,
                 rest: 0,
                 stage: Stage::Between,
                 start: position,
-            };
-            let head = turns::kept_head(begun, Kept::Emptied);
-            WalkedHead {
-                trail,
-                head,
-                taken: 0,
-                step: Ok(Step::More),
-            }
-        }
-        Err(e) => {
-            let trail = Trail {
+            },
+            head: turns::kept_head(made.head, Kept::Emptied),
+            taken: 0,
+            step: Ok(Step::More),
+        },
+        Err(e) => WalkedHead {
+            trail: Trail {
                 position,
                 rest: 0,
                 stage: Stage::Stopped(e),
                 start: position,
-            };
-            WalkedHead {
-                trail,
-                head: h,
-                taken: 0,
-                step: Err(e),
-            }
-        }
+            },
+            head: h,
+            taken: 0,
+            step: Err(e),
+        },
     }
 }
 
@@ -201,10 +170,8 @@ pub fn walk(
     requires { length t.old ≡ 1024 }
     ensures { Is (walking (walker_in t.old h trail) block.old store.old piece.now) (walked_in t.new result) block.new store.new }
 {
-    let stage = trail.stage;
-    let c = check_map(h, t, stage, block.len(), store.len());
-    let turn = turns::turn(trail, c, piece);
-    match turn {
+    let c = check_map(h, t, trail.stage, block.len(), store.len());
+    match turns::turn(trail, c, piece) {
         Turn::Stays(r) => with_head(h, r),
         Turn::Reads(kept, start, k) => {
             let begun = turns::kept_head(h, kept);
@@ -218,8 +185,6 @@ pub fn end(trail: Trail, h: Head, t: &[u32], block: &[u8], store: &[u8]) -> Walk
     requires { length t.now ≡ 1024 }
     ensures { Is (ending (walker_in t.now h trail) block.now store.now) (walked_in t.now result) block.now store.now }
 {
-    let stage = trail.stage;
-    let c = check_map(h, t, stage, block.len(), store.len());
-    let r = turns::end_trail(trail, c);
-    with_head(h, r)
+    let c = check_map(h, t, trail.stage, block.len(), store.len());
+    with_head(h, turns::end_trail(trail, c))
 }

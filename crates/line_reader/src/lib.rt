@@ -35,7 +35,7 @@ pub struct Handled {
 pub fn last_of(n: usize) -> usize
     ensures { result ≡ n - 1 }
 {
-    if n == 0 { 0 } else { n - 1 }
+    n.saturating_sub(1)
 }
 
 // How many octets of a line stand before its first colon. Where the line lies whole in the piece, at from, it is looked for there: octets
@@ -45,9 +45,10 @@ pub fn colon_of(piece: &[u8], from: usize, k: usize, line: &[u8], whole: bool) -
     ensures { result ≡ before 58 line.now }
 {
     if whole {
-        return lines::before_within(piece, from, k, 58);
+        lines::before_within(piece, from, k, 58)
+    } else {
+        lines::find_octet(line, 0, 58)
     }
-    lines::find_octet(line, 0, 58)
 }
 
 fn handled_of(
@@ -149,8 +150,7 @@ pub fn handle_next(
     ensures { Is (next_handled h last block.old store.old piece.now at) result block.new store.new }
 {
     let count = h.count;
-    let took = lines::take_line(piece, at, block, count, h.limit, h.line, h.quirks);
-    match took {
+    match lines::take_line(piece, at, block, count, h.limit, h.line, h.quirks) {
         Took::More(k) => {
             let head = Head {
                 count: count + k,
@@ -163,8 +163,13 @@ pub fn handle_next(
                 count: count + k,
                 ..h
             };
-            let answer = Err(Refusal::BlockFull);
-            handled_of(head, Ok(Change::Nothing), at + k, answer, false)
+            handled_of(
+                head,
+                Ok(Change::Nothing),
+                at + k,
+                Err(Refusal::BlockFull),
+                false,
+            )
         }
         Took::Line(k) => {
             let head = Head {

@@ -4,6 +4,7 @@
 ghost use Rattle.std.specs.Prelude.{◌≡◌, ◌≤◌, take};
 ghost use Rattle.maps.specs.Places.{Parted, Cut, in_block, in_store};
 ghost use Rattle.maps.specs.Good.{good_place, good_status, good_field, good_fields, good_rooms, good_counts, good, checked, checked_done, is_reading, is_done};
+ghost use Rattle.maps.specs.Heads.{under, head_of};
 ghost use Rattle.maps.specs.Maps.{unmade};
 
 use leaves::refusals::Refusal;
@@ -82,6 +83,45 @@ impl HeaderMap {
             quirks: false,
             edited: false,
             phase: Phase::Done,
+        }
+    }
+
+    // The map but for its table.
+    pub fn head(self) -> Head
+        ensures { result ≡ head_of self }
+    {
+        Head {
+            limit: self.limit,
+            room: self.room,
+            count: self.count,
+            line: self.line,
+            mark: self.mark,
+            fields: self.fields,
+            status: self.status,
+            awaits: self.awaits,
+            quirks: self.quirks,
+            edited: self.edited,
+            phase: self.phase,
+        }
+    }
+
+    // The map of a table under a head.
+    pub fn under(table: [Field; 256], h: Head) -> HeaderMap
+        ensures { result ≡ under table h }
+    {
+        HeaderMap {
+            table,
+            limit: h.limit,
+            room: h.room,
+            count: h.count,
+            line: h.line,
+            mark: h.mark,
+            fields: h.fields,
+            status: h.status,
+            awaits: h.awaits,
+            quirks: h.quirks,
+            edited: h.edited,
+            phase: h.phase,
         }
     }
 }

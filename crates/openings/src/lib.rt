@@ -1,7 +1,7 @@
 // What a header that was read opens: a record, or 9 or 10.
 #![tactic(auto)]
 
-ghost use Rattle.std.specs.Prelude.{◌≡◌, ◌≤◌};
+ghost use Rattle.std.specs.Prelude.{◌≡◌, ◌≤◌, length};
 ghost use Rattle.maps.specs.Good.{checked_done};
 ghost use Rattle.maps.specs.Said.{saying};
 ghost use Rattle.openings.specs.Opening.{version_text, is_length, opened, opening};
@@ -41,87 +41,69 @@ pub struct Spots {
 fn is_version(text: &[u8]) -> bool
     ensures { result ≡ version_text text.now }
 {
-    if equals::same_octets(text, b"WARC/1.0") {
-        return true;
-    }
-    equals::same_octets(text, b"WARC/1.1")
+    equals::same_octets(text, b"WARC/1.0") || equals::same_octets(text, b"WARC/1.1")
 }
 
 fn is_length(value: &[u8]) -> bool
     ensures { result ≡ is_length value.now }
 {
-    if lengths::is_decimal(value) {
-        let n = lengths::content_length(value);
-        return n <= CAP;
-    }
-    false
+    lengths::is_decimal(value) && lengths::content_length(value) <= CAP
 }
 
 // The field i, and whether it is one of the name.
+#[tactic(auto, using(leaves::proofs::ChoiceLaws::choices), unfolding(crate::specs::Sights::again))]
 fn see(z: Sight, same: bool, i: usize) -> Sight
     ensures { result ≡ seen z same i }
 {
-    if same {
-        if z.times == 0 {
-            return Sight { at: i, times: 1 };
-        }
-        return Sight { at: z.at, times: 2 };
+    if !same {
+        z
+    } else if z.times == 0 {
+        Sight { at: i, times: 1 }
+    } else {
+        Sight { at: z.at, times: 2 }
     }
-    z
 }
 
 // The field i with a key: what a pass over fields does with each.
 pub fn note(z: Sights, key: &[u8], i: usize) -> Sights
     ensures { result ≡ noted z key.now i }
 {
-    let a = z.length;
-    let e = z.kind;
-    let length = see(a, names::same_name(key, b"Content-Length"), i);
-    let kind = see(e, names::same_name(key, b"WARC-Type"), i);
-    Sights { length, kind }
+    Sights {
+        length: see(z.length, names::same_name(key, b"Content-Length"), i),
+        kind: see(z.kind, names::same_name(key, b"WARC-Type"), i),
+    }
 }
 
-// A pass over the first n fields of a table. The values' places are read here: a function that indexes a table copies it.
-fn spot<'a>(t: [Field; 256], n: usize, block: &'a [u8], store: &'a [u8]) -> Spots
-    requires { n ≤ 256 }
-    ensures { result ≡ spotted block.now store.now t n }
+// A pass over the first n fields of a table.
+fn spot(t: &[Field], n: usize, block: &[u8], store: &[u8]) -> Spots
+    requires { (n ≤ 256) × (length t.now ≡ 256) }
+    ensures { result ≡ spotted block.now store.now t.now n }
 {
     let none = Sight { at: 0, times: 0 };
     let mut z = Sights {
         length: none,
         kind: none,
     };
-    let mut i = 0;
-    while i < n {
-        let f = t[i];
-        let p = f.key;
-        let key = maps::part(block, store, p);
-        z = note(z, key, i);
-        i += 1;
+    for (i, f) in t[..n].iter().enumerate() {
+        z = note(z, maps::part(block, store, f.key), i);
     }
-    let a = z.length;
-    let e = z.kind;
-    let first = a.at;
-    let other = e.at;
-    let x = t[first];
-    let y = t[other];
-    let length = x.value;
-    let kind = y.value;
     Spots {
-        lengths: a.times,
-        length,
-        kinds: e.times,
-        kind,
+        lengths: z.length.times,
+        length: t[z.length.at].value,
+        kinds: z.kind.times,
+        kind: t[z.kind.at].value,
     }
 }
 
+#[tactic(auto, using(leaves::proofs::ChoiceLaws::choices), unfolding(crate::specs::Sights::length_text))]
 fn length_text<'a>(times: usize, p: Place, block: &'a [u8], store: &'a [u8]) -> &'a [u8]
     ensures { result.now ≡ length_text block.now store.now times p }
 {
     if times == 1 {
-        return maps::part(block, store, p);
+        maps::part(block, store, p)
+    } else {
+        &block[..0]
     }
-    &block[0..0]
 }
 
 #[tactic(auto, using(leaves::proofs::ChoiceLaws::choices), unfolding(crate::specs::Sights::kind_code))]
@@ -131,8 +113,7 @@ fn kind_code<'a>(times: usize, p: Place, block: &'a [u8], store: &'a [u8]) -> u1
     if times == 0 {
         return 0;
     }
-    let value = maps::part(block, store, p);
-    types::record_type(value)
+    types::record_type(maps::part(block, store, p))
 }
 
 // What a status, the value of the only Content-Length and a type open.
@@ -140,14 +121,13 @@ fn open_texts(status: &[u8], value: &[u8], kind: u16) -> Result<(u64, u16), Refu
     ensures { result ≡ opened_by status.now value.now kind }
 {
     let text = trims::trim(status);
-    if is_version(text) {
-        if is_length(value) {
-            let n = lengths::content_length(value);
-            return Ok((n, kind));
-        }
+    if !is_version(text) {
+        return Err(Refusal::BadVersion);
+    }
+    if !is_length(value) {
         return Err(Refusal::BadLength);
     }
-    Err(Refusal::BadVersion)
+    Ok((lengths::content_length(value), kind))
 }
 
 // What a status opens with what a pass over the fields found.
@@ -163,10 +143,8 @@ pub fn open_spots<'a>(
         None => Err(Refusal::BadVersion),
         Some(p) => {
             let text = maps::part(block, store, p);
-            let a = z.length;
-            let e = z.kind;
-            let value = length_text(z.lengths, a, block, store);
-            let kind = kind_code(z.kinds, e, block, store);
+            let value = length_text(z.lengths, z.length, block, store);
+            let kind = kind_code(z.kinds, z.kind, block, store);
             open_texts(text, value, kind)
         }
     }
@@ -177,10 +155,8 @@ pub fn open_good<'a>(m: HeaderMap, block: &'a [u8], store: &'a [u8]) -> Result<(
     requires { Ok tt ≡ checked_done m block.now store.now }
     ensures { result ≡ opened (saying m block.now store.now) }
 {
-    let status = m.status;
-    let t = m.table;
-    let z = spot(t, m.fields, block, store);
-    open_spots(status, z, block, store)
+    let z = spot(&m.table, m.fields, block, store);
+    open_spots(m.status, z, block, store)
 }
 
 // What a map opens.
@@ -191,9 +167,6 @@ pub fn open_record<'a>(
 ) -> Result<(u64, u16), Refusal>
     ensures { result ≡ opening m block.now store.now }
 {
-    let s = maps::check_done(m, block, store);
-    match s {
-        Ok(()) => open_good(m, block, store),
-        Err(x) => Err(x),
-    }
+    maps::check_done(m, block, store)?;
+    open_good(m, block, store)
 }

@@ -1,15 +1,11 @@
--- What an answer or the first checks make of a head, and where a change puts a field. Assumes nothing.
+-- What an answer or the first checks make of a head. Assumes nothing.
 use Rattle.leaves.specs.declared.refusals.Refusal.{Refusal}
-use Rattle.std.specs.Prelude.{false, ℕ, Err, Ok, Result, ⊤}
+use Rattle.std.specs.Prelude.{false, Err, Ok, Result, ⊤}
 use Rattle.maps.specs.Heads.{empty_head}
 use Rattle.maps.specs.declared.Phase.TheVariants.{Done}
-use Rattle.maps.specs.declared.Field.{Field}
 use Rattle.maps.specs.declared.Head.{Head}
-use Rattle.folds.specs.declared.Change.{Change}
-use Rattle.folds.specs.declared.Change.TheVariants.{Nothing, Status as Headed, Put}
 use Rattle.line_reader.specs.declared.Answer.{Answer}
 use Rattle.line_reader.specs.declared.Answer.TheVariants.{More, Blank, Input}
-use Rattle.reader.specs.declared.Spot.{Spot}
 
 abbrev pub done_head : Head → Head
 done_head h =
@@ -36,10 +32,3 @@ head_after (Err e) h = empty_head h.limit h.room false false Done
 abbrev pub head_when : Result ⊤ Refusal → Head → Head → Head
 head_when (Ok _) new old = new
 head_when (Err e) new old = old
-
--- the field that a change puts; else the last one, where it is
-abbrev pub spot_of : Result Change Refusal → ℕ → Field → Spot
-spot_of (Ok Nothing) slot last = record { slot = slot; field = last }
-spot_of (Ok (Headed p)) slot last = record { slot = slot; field = last }
-spot_of (Ok (Put to x mark)) slot last = record { slot = to; field = x }
-spot_of (Err e) slot last = record { slot = slot; field = last }

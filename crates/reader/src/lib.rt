@@ -1,11 +1,12 @@
 // The reader: begin, feed, finish and clear, over a map and its two loans.
 #![tactic(auto)]
 
-ghost use Rattle.std.specs.Prelude.{◌≡◌};
+ghost use Rattle.std.specs.Prelude.{◌≡◌, length};
 ghost use Rattle.maps.specs.Good.{Ready};
 ghost use Rattle.maps.specs.Maps.{Is};
-ghost use Rattle.maps.specs.Heads.{empty_head, head_of, under};
-ghost use Rattle.reader.specs.Heads.{head_after, head_when, spot_of};
+ghost use Rattle.maps.specs.Heads.{empty_head};
+ghost use Rattle.line_reader.specs.Handling.{Puts, put_in};
+ghost use Rattle.reader.specs.Heads.{head_after, head_when};
 ghost use Rattle.reader.specs.Calls.{checked_rooms, fed_from, finished_from, feeding, finishing, clearing, beginning};
 
 use folds::Change;
@@ -25,13 +26,6 @@ pub struct Fed {
 pub struct Made {
     pub map: HeaderMap,
     pub answer: Result<(), Refusal>,
-}
-
-// A field, and its number in the table.
-#[derive(Clone, Copy)]
-pub struct Spot {
-    pub slot: usize,
-    pub field: Field,
 }
 
 // The head of an empty map.
@@ -59,19 +53,13 @@ pub fn head_after(answer: Result<Answer, Refusal>, h: Head) -> Head
 {
     match answer {
         Ok(Answer::More) => h,
-        Ok(Answer::Blank) => Head {
+        Ok(Answer::Blank | Answer::Input) => Head {
             awaits: false,
             quirks: false,
             phase: Phase::Done,
             ..h
         },
-        Ok(Answer::Input) => Head {
-            awaits: false,
-            quirks: false,
-            phase: Phase::Done,
-            ..h
-        },
-        Err(e) => empty_head(h.limit, h.room, false, false, Phase::Done),
+        Err(_) => empty_head(h.limit, h.room, false, false, Phase::Done),
     }
 }
 
@@ -81,63 +69,17 @@ fn head_when(checked: Result<(), Refusal>, new: Head, old: Head) -> Head
 {
     match checked {
         Ok(()) => new,
-        Err(e) => old,
+        Err(_) => old,
     }
 }
 
-// The head of a map.
-fn head_of(m: HeaderMap) -> Head
-    ensures { result ≡ head_of m }
+// Puts into the table what a change puts.
+fn put_change(t: &mut [Field], change: Result<Change, Refusal>)
+    requires { (length t.old ≡ 256) × Puts change }
+    ensures { t.new ≡ put_in t.old change }
 {
-    let status = m.status;
-    let phase = m.phase;
-    Head {
-        limit: m.limit,
-        room: m.room,
-        count: m.count,
-        line: m.line,
-        mark: m.mark,
-        fields: m.fields,
-        status,
-        awaits: m.awaits,
-        quirks: m.quirks,
-        edited: m.edited,
-        phase,
-    }
-}
-
-// The map of a table under a head.
-fn map_under(table: [Field; 256], h: Head) -> HeaderMap
-    ensures { result ≡ under table h }
-{
-    let status = h.status;
-    let phase = h.phase;
-    HeaderMap {
-        table,
-        limit: h.limit,
-        room: h.room,
-        count: h.count,
-        line: h.line,
-        mark: h.mark,
-        fields: h.fields,
-        status,
-        awaits: h.awaits,
-        quirks: h.quirks,
-        edited: h.edited,
-        phase,
-    }
-}
-
-// The field that a change puts, and where; a change that puts none leaves the last field where it is. A loop over lines does better to
-// match on the change.
-fn spot_of(change: Result<Change, Refusal>, slot: usize, last: Field) -> Spot
-    ensures { result ≡ spot_of change slot last }
-{
-    match change {
-        Ok(Change::Nothing) => Spot { slot, field: last },
-        Ok(Change::Status(p)) => Spot { slot, field: last },
-        Ok(Change::Put(to, x, mark)) => Spot { slot: to, field: x },
-        Err(e) => Spot { slot, field: last },
+    if let Ok(Change::Put(slot, x, _)) = change {
+        t[slot] = x;
     }
 }
 
@@ -148,7 +90,7 @@ fn feed_lines(m: HeaderMap, block: &mut [u8], store: &mut [u8], piece: &[u8]) ->
     ensures { Is (fed_from m block.old store.old piece.now) result block.new store.new }
 {
     let mut t = m.table;
-    let mut h = head_of(m);
+    let mut h = m.head();
     let mut left = h;
     let mut at = 0;
     let mut answer = Ok(Answer::More);
@@ -157,24 +99,15 @@ fn feed_lines(m: HeaderMap, block: &mut [u8], store: &mut [u8], piece: &[u8]) ->
         let slot = line_reader::last_of(h.fields);
         let last = t[slot];
         let handled = line_reader::handle_next(h, last, block, store, piece, at);
-        let change = handled.change;
         h = handled.head;
         at = handled.taken;
         answer = handled.answer;
         going = handled.going;
         left = head_after(answer, h);
-        match change {
-            Ok(Change::Nothing) => {}
-            Ok(Change::Status(p)) => {}
-            Ok(Change::Put(to, x, mark)) => {
-                t[to] = x;
-            }
-            Err(e) => {}
-        }
+        put_change(&mut t, handled.change);
     }
-    let map = map_under(t, left);
     Fed {
-        map,
+        map: HeaderMap::under(t, left),
         taken: at,
         answer,
     }
@@ -184,8 +117,7 @@ fn feed_lines(m: HeaderMap, block: &mut [u8], store: &mut [u8], piece: &[u8]) ->
 pub fn feed(m: HeaderMap, block: &mut [u8], store: &mut [u8], piece: &[u8]) -> Fed
     ensures { Is (feeding m block.old store.old piece.now) result block.new store.new }
 {
-    let phase = m.phase;
-    let ready = maps::is_reading(phase);
+    let ready = maps::is_reading(m.phase);
     match maps::check(m, ready, block.len(), store.len()) {
         Ok(()) => feed_lines(m, block, store, piece),
         Err(e) => Fed {
@@ -202,21 +134,15 @@ fn finish_line(m: HeaderMap, block: &[u8], store: &mut [u8]) -> Fed
     ensures { Is (finished_from m block.now store.old) result block.now store.new }
 {
     let mut t = m.table;
-    let h = head_of(m);
+    let h = m.head();
     let slot = line_reader::last_of(h.fields);
     let last = t[slot];
-    let handled = line_reader::handle_last(h, last, block, store);
-    let change = handled.change;
-    let spot = spot_of(change, slot, last);
-    let place = spot.slot;
-    let field = spot.field;
-    t[place] = field;
-    let answer = handled.answer;
-    let left = handled.head;
-    let head = head_after(answer, left);
-    let map = map_under(t, head);
+    let ended = line_reader::handle_last(h, last, block, store);
+    put_change(&mut t, ended.change);
+    let answer = ended.answer;
+    let head = head_after(answer, ended.head);
     Fed {
-        map,
+        map: HeaderMap::under(t, head),
         taken: 0,
         answer,
     }
@@ -226,8 +152,7 @@ fn finish_line(m: HeaderMap, block: &[u8], store: &mut [u8]) -> Fed
 pub fn finish(m: HeaderMap, block: &[u8], store: &mut [u8]) -> Fed
     ensures { Is (finishing m block.now store.old) result block.now store.new }
 {
-    let phase = m.phase;
-    let on = maps::is_reading(phase);
+    let on = maps::is_reading(m.phase);
     match maps::check(m, on, block.len(), store.len()) {
         Ok(()) => finish_line(m, block, store),
         Err(e) => Fed {
@@ -242,32 +167,29 @@ pub fn finish(m: HeaderMap, block: &[u8], store: &mut [u8]) -> Fed
 pub fn clear(m: HeaderMap, block: &[u8], store: &[u8]) -> Made
     ensures { Is (clearing m block.now store.now) result block.now store.now }
 {
-    let checked = maps::check(m, true, block.len(), store.len());
-    let table = m.table;
-    let old = head_of(m);
+    let answer = maps::check(m, true, block.len(), store.len());
+    let old = m.head();
     let cleared = empty_head(m.limit, m.room, false, false, Phase::Done);
-    let head = head_when(checked, cleared, old);
-    let map = map_under(table, head);
+    let head = head_when(answer, cleared, old);
     Made {
-        map,
-        answer: checked,
+        map: HeaderMap::under(m.table, head),
+        answer,
     }
 }
 
 // What begin checks: 1, 2.
+#[tactic(auto, unfolding(crate::specs::Calls::checked_rooms))]
 pub fn check_rooms(limit: usize, room: usize, block: usize, store: usize) -> Result<(), Refusal>
     ensures { result ≡ checked_rooms limit room block store }
 {
-    if maps::good_rooms(limit, room) {
-        if limit <= block {
-            if room <= store {
-                return Ok(());
-            }
-            return Err(Refusal::ShortLoan);
-        }
-        return Err(Refusal::ShortLoan);
+    if !maps::good_rooms(limit, room) {
+        return Err(Refusal::BadRooms);
     }
-    Err(Refusal::BadRooms)
+    if limit <= block && room <= store {
+        Ok(())
+    } else {
+        Err(Refusal::ShortLoan)
+    }
 }
 
 // Makes a map that is used again an empty one that is Reading, over two loans; refused, it is left as it was.
@@ -283,10 +205,11 @@ pub fn begin(
     ensures { Is (beginning m limit room awaits quirks block.now store.now) result block.now store.now }
 {
     let answer = check_rooms(limit, room, block.len(), store.len());
-    let table = m.table;
-    let old = head_of(m);
+    let old = m.head();
     let new = empty_head(limit, room, awaits, quirks, Phase::Reading);
     let head = head_when(answer, new, old);
-    let map = map_under(table, head);
-    Made { map, answer }
+    Made {
+        map: HeaderMap::under(m.table, head),
+        answer,
+    }
 }

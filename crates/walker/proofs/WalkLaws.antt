@@ -115,6 +115,13 @@ module _ (x y : List ℕ) (i : ℕ) where
   unfolding common
   common_end h = rw (drop_of_length-le x h)
 
+  pub common_over : min (length x) (length y) ≤ i → common (drop i x) (drop i y) ≡ 0
+  common_over h = choose (ltb i (length x)) refl
+    where
+      choose : (t : Bool) → ltb i (length x) ≡ t → common (drop i x) (drop i y) ≡ 0
+      choose true e = let k = ltb-true i (length x) e in common_short k (omega (arith, h, k))
+      choose false e = common_end (ltb-false i (length x) e)
+
 module _ (x y : ℕ) (xs ys : List ℕ) where
   pub common_same : x ≡ y → common (x ∷ xs) (y ∷ ys) ≡ suc (common xs ys)
   common_same e = common_more (x ∷ xs) (y ∷ ys) 0 (omega arith) (omega arith) e

@@ -5,7 +5,6 @@ pub mod turns;
 
 ghost use Rattle.std.specs.Prelude.{◌≡◌, ◌+◌, ◌≤◌, length};
 ghost use Rattle.maps.specs.Good.{checked};
-ghost use Rattle.maps.specs.Heads.{under as underHead, head_of};
 ghost use Rattle.maps.specs.Maps.{Is};
 ghost use Rattle.openings.specs.Opening.{opening as openingOf};
 ghost use Rattle.walker.specs.Walk.{starting, ready_at, header_read, walking, ending};
@@ -13,7 +12,7 @@ ghost use Rattle.walker.specs.Trails.{walker_of, trail_of, kept_map, with_map, J
 
 use leaves::refusals::Refusal;
 use line_reader::Answer;
-use maps::{Head, HeaderMap};
+use maps::HeaderMap;
 
 // The first position that is too far.
 pub const FURTHEST: u64 = 4611686018427387904;
@@ -112,62 +111,19 @@ pub enum Headed {
 fn trail_of(w: Walker) -> Trail
     ensures { result ≡ trail_of w }
 {
-    let stage = w.stage;
     Trail {
         position: w.position,
         rest: w.rest,
-        stage,
+        stage: w.stage,
         start: w.start,
-    }
-}
-
-fn head_of(m: HeaderMap) -> Head
-    ensures { result ≡ head_of m }
-{
-    let status = m.status;
-    let phase = m.phase;
-    Head {
-        limit: m.limit,
-        room: m.room,
-        count: m.count,
-        line: m.line,
-        mark: m.mark,
-        fields: m.fields,
-        status,
-        awaits: m.awaits,
-        quirks: m.quirks,
-        edited: m.edited,
-        phase,
-    }
-}
-
-// The map of a map's table under another head.
-fn under(m: HeaderMap, h: Head) -> HeaderMap
-    ensures { result ≡ underHead m.table h }
-{
-    let status = h.status;
-    let phase = h.phase;
-    HeaderMap {
-        limit: h.limit,
-        room: h.room,
-        count: h.count,
-        line: h.line,
-        mark: h.mark,
-        fields: h.fields,
-        status,
-        awaits: h.awaits,
-        quirks: h.quirks,
-        edited: h.edited,
-        phase,
-        ..m
     }
 }
 
 fn kept_map(m: HeaderMap, kept: Kept) -> HeaderMap
     ensures { result ≡ kept_map kept m }
 {
-    let h = turns::kept_head(head_of(m), kept);
-    under(m, h)
+    let h = turns::kept_head(m.head(), kept);
+    HeaderMap::under(m.table, h)
 }
 
 // What a call gives that was made on the trail: the walker is built here alone, since a map that goes through a function is copied there.
@@ -175,21 +131,16 @@ fn with_map(m: HeaderMap, r: Trailed) -> Walked
     ensures { result ≡ with_map m r }
 {
     let t = r.trail;
-    let stage = t.stage;
-    let kept = r.kept;
-    let step = r.step;
-    let map = kept_map(m, kept);
-    let walker = Walker {
-        map,
-        position: t.position,
-        rest: t.rest,
-        stage,
-        start: t.start,
-    };
     Walked {
-        walker,
+        walker: Walker {
+            map: kept_map(m, r.kept),
+            position: t.position,
+            rest: t.rest,
+            stage: t.stage,
+            start: t.start,
+        },
         taken: r.taken,
-        step,
+        step: r.step,
     }
 }
 
@@ -197,8 +148,7 @@ fn with_map(m: HeaderMap, r: Trailed) -> Walked
 fn check_map(m: HeaderMap, stage: Stage, block: usize, store: usize) -> Result<(), Refusal>
     ensures { result ≡ checked (ready_at stage m.phase) m block store }
 {
-    let phase = m.phase;
-    let ready = turns::ready_at(stage, phase);
+    let ready = turns::ready_at(stage, m.phase);
     maps::check(m, ready, block, store)
 }
 
@@ -207,37 +157,29 @@ pub fn start(m: HeaderMap, room: usize, position: u64, block: &[u8], store: &[u8
     ensures { Is (starting m room position block.now store.now) result block.now store.now }
 {
     let made = reader::begin(m, maps::DEFAULT_LIMIT, room, false, false, block, store);
-    let answer = made.answer;
-    match answer {
-        Ok(()) => {
-            let map = kept_map(made.map, Kept::Emptied);
-            let walker = Walker {
-                map,
+    match made.answer {
+        Ok(()) => Walked {
+            walker: Walker {
+                map: kept_map(made.map, Kept::Emptied),
                 position,
                 rest: 0,
                 stage: Stage::Between,
                 start: position,
-            };
-            Walked {
-                walker,
-                taken: 0,
-                step: Ok(Step::More),
-            }
-        }
-        Err(e) => {
-            let walker = Walker {
+            },
+            taken: 0,
+            step: Ok(Step::More),
+        },
+        Err(e) => Walked {
+            walker: Walker {
                 map: m,
                 position,
                 rest: 0,
                 stage: Stage::Stopped(e),
                 start: position,
-            };
-            Walked {
-                walker,
-                taken: 0,
-                step: Err(e),
-            }
-        }
+            },
+            taken: 0,
+            step: Err(e),
+        },
     }
 }
 
@@ -251,14 +193,10 @@ fn comes_to<'a>(
     requires { Judged answer m block.now store.now }
     ensures { result ≡ headed_by answer (openingOf m block.now store.now) }
 {
-    match answer {
-        Ok(Answer::More) => Ok(Headed::Goes),
-        Ok(Answer::Blank) => {
-            let o = openings::open_good(m, block, store);
-            Ok(Headed::Opens(o))
-        }
-        Ok(Answer::Input) => Ok(Headed::Input),
-        Err(e) => Err(e),
+    match answer? {
+        Answer::More => Ok(Headed::Goes),
+        Answer::Blank => Ok(Headed::Opens(openings::open_good(m, block, store))),
+        Answer::Input => Ok(Headed::Input),
     }
 }
 
@@ -277,8 +215,7 @@ fn read_header(
 {
     let fed = reader::feed(m, block, store, &piece[0..k]);
     let taken = fed.taken;
-    let answer = fed.answer;
-    let h = comes_to(answer, fed.map, block, store);
+    let h = comes_to(fed.answer, fed.map, block, store);
     let trail = Trail {
         position: t.position + (taken as u64),
         start,
@@ -293,10 +230,8 @@ pub fn walk(w: Walker, block: &mut [u8], store: &mut [u8], piece: &[u8]) -> Walk
     ensures { Is (walking w block.old store.old piece.now) result block.new store.new }
 {
     let t = trail_of(w);
-    let stage = t.stage;
-    let c = check_map(w.map, stage, block.len(), store.len());
-    let turn = turns::turn(t, c, piece);
-    match turn {
+    let c = check_map(w.map, t.stage, block.len(), store.len());
+    match turns::turn(t, c, piece) {
         Turn::Stays(r) => with_map(w.map, r),
         Turn::Reads(kept, start, k) => {
             let m = kept_map(w.map, kept);
@@ -310,8 +245,6 @@ pub fn end(w: Walker, block: &[u8], store: &[u8]) -> Walked
     ensures { Is (ending w block.now store.now) result block.now store.now }
 {
     let t = trail_of(w);
-    let stage = t.stage;
-    let c = check_map(w.map, stage, block.len(), store.len());
-    let r = turns::end_trail(t, c);
-    with_map(w.map, r)
+    let c = check_map(w.map, t.stage, block.len(), store.len());
+    with_map(w.map, turns::end_trail(t, c))
 }

@@ -12,15 +12,9 @@ fn rests(stage: Stage) -> Result<bool, Refusal>
     ensures { result ≡ resting stage }
 {
     match stage {
-        Stage::Between => Ok(true),
-        Stage::Header => Ok(true),
-        Stage::Body => Ok(true),
-        Stage::Cr => Ok(true),
-        Stage::Lf => Ok(true),
-        Stage::LastCr => Ok(true),
-        Stage::LastLf => Ok(true),
-        Stage::Ended => Ok(false),
         Stage::Stopped(e) => Err(e),
+        Stage::Ended => Ok(false),
+        _ => Ok(true),
     }
 }
 
@@ -29,15 +23,8 @@ pub fn ready_at(stage: Stage, phase: Phase) -> bool
     ensures { result ≡ ready_at stage phase }
 {
     match stage {
-        Stage::Between => maps::is_done(phase),
         Stage::Header => maps::is_reading(phase),
-        Stage::Body => maps::is_done(phase),
-        Stage::Cr => maps::is_done(phase),
-        Stage::Lf => maps::is_done(phase),
-        Stage::LastCr => maps::is_done(phase),
-        Stage::LastLf => maps::is_done(phase),
-        Stage::Ended => maps::is_done(phase),
-        Stage::Stopped(e) => maps::is_done(phase),
+        _ => maps::is_done(phase),
     }
 }
 
@@ -62,9 +49,8 @@ fn at_stage(
 ) -> Trailed
     ensures { result ≡ at_stage t stage taken step kept }
 {
-    let trail = Trail { stage, ..t };
     Trailed {
-        trail,
+        trail: Trail { stage, ..t },
         taken,
         step,
         kept,
@@ -94,21 +80,12 @@ fn stop_inside(t: Trail, e: Refusal) -> Trailed
     at_stage(t, Stage::Stopped(e), 0, Err(e), Kept::Emptied)
 }
 
-fn lesser(n: usize, rest: u64) -> usize
-    ensures { result ≡ min n rest }
-{
-    if (n as u64) < rest {
-        return n;
-    }
-    rest as usize
-}
-
 // How many octets of a piece of n may be taken at a position.
 fn allowed(position: u64, n: usize) -> usize
     ensures { result ≡ allowedOf position n }
 {
     if position < FURTHEST {
-        return lesser(n, FURTHEST - position);
+        return n.min((FURTHEST - position) as usize);
     }
     0
 }
@@ -121,15 +98,14 @@ fn walk_body(t: Trail, k: usize) -> Trailed
     if k == 0 {
         return stop(t, Refusal::TooFar);
     }
-    let n = lesser(k, t.rest);
-    let trail = Trail {
-        position: t.position + (n as u64),
-        rest: t.rest - (n as u64),
-        stage: Stage::Body,
-        start: t.start,
-    };
+    let n = k.min(t.rest as usize);
     Trailed {
-        trail,
+        trail: Trail {
+            position: t.position + (n as u64),
+            rest: t.rest - (n as u64),
+            stage: Stage::Body,
+            start: t.start,
+        },
         taken: n,
         step: Ok(Step::Body),
         kept: Kept::Same,
@@ -140,34 +116,25 @@ fn walk_body(t: Trail, k: usize) -> Trailed
 fn common(x: &[u8], y: &[u8]) -> usize
     ensures { result ≡ commonOf x.now y.now }
 {
-    let mut i = 0;
-    while i < x.len() {
-        if i < y.len() {
-            if x[i] == y[i] {
-                i += 1;
-            } else {
-                return i;
-            }
-        } else {
+    let n = x.len().min(y.len());
+    for i in 0..n {
+        if x[i] != y[i] {
             return i;
         }
     }
-    i
+    n
 }
 
+#[tactic(auto, using(leaves::proofs::ChoiceLaws::choices))]
 fn trailer_stage(k: usize) -> Stage
     ensures { result ≡ trailer_stage k }
 {
-    if k == 0 {
-        return Stage::Cr;
+    match k {
+        0 => Stage::Cr,
+        1 => Stage::Lf,
+        2 => Stage::LastCr,
+        _ => Stage::LastLf,
     }
-    if k == 1 {
-        return Stage::Lf;
-    }
-    if k == 2 {
-        return Stage::LastCr;
-    }
-    Stage::LastLf
 }
 
 // A trail n octets further on.
@@ -175,13 +142,12 @@ fn onward(t: Trail, stage: Stage, n: usize, step: Result<Step, Refusal>) -> Trai
     requires { t.position + n ≤ 18446744073709551615 }
     ensures { Follows t result (λ w. onwardTo w stage n step) }
 {
-    let trail = Trail {
-        position: t.position + (n as u64),
-        stage,
-        ..t
-    };
     Trailed {
-        trail,
+        trail: Trail {
+            position: t.position + (n as u64),
+            stage,
+            ..t
+        },
         taken: n,
         step,
         kept: Kept::Same,
@@ -210,8 +176,7 @@ fn end_trailer(t: Trail, past: usize, k: usize, n: usize, same: usize) -> Traile
     if k < n {
         return halt(t, Refusal::TooFar, same);
     }
-    let stage = trailer_stage(past + same);
-    onward(t, stage, same, Ok(Step::More))
+    onward(t, trailer_stage(past + same), same, Ok(Step::More))
 }
 
 // How many octets of the first k of a piece the trailer wants, from its octet number past on.
@@ -232,24 +197,19 @@ fn walk_trailer(t: Trail, past: usize, k: usize, piece: &[u8]) -> Trailed
 }
 
 // Which way a walker goes that neither stopped nor ended. A body of which nothing is left is a trailer that begins.
+#[tactic(auto, using(leaves::proofs::ChoiceLaws::choices))]
 fn way_of(stage: Stage, rest: u64) -> Way
     ensures { result ≡ way_of stage rest }
 {
     match stage {
         Stage::Between => Way::Begins,
         Stage::Header => Way::GoesOn,
-        Stage::Body => {
-            if rest == 0 {
-                return Way::Trails(0);
-            }
-            Way::Passes
-        }
+        Stage::Body if rest == 0 => Way::Trails(0),
         Stage::Cr => Way::Trails(0),
         Stage::Lf => Way::Trails(1),
         Stage::LastCr => Way::Trails(2),
         Stage::LastLf => Way::Trails(3),
-        Stage::Ended => Way::Passes,
-        Stage::Stopped(e) => Way::Passes,
+        Stage::Body | Stage::Ended | Stage::Stopped(_) => Way::Passes,
     }
 }
 
@@ -258,8 +218,7 @@ fn begin_header(t: Trail, k: usize) -> Turn
     ensures { TurningAt t k result between_walked }
 {
     if k == 0 {
-        let r = stop(t, Refusal::TooFar);
-        return Turn::Stays(r);
+        return Turn::Stays(stop(t, Refusal::TooFar));
     }
     Turn::Reads(Kept::Fresh, t.position, k)
 }
@@ -269,8 +228,7 @@ fn resume_header(t: Trail, k: usize) -> Turn
     ensures { TurningAt t k result header_walked }
 {
     if k == 0 {
-        let r = stop_inside(t, Refusal::TooFar);
-        return Turn::Stays(r);
+        return Turn::Stays(stop_inside(t, Refusal::TooFar));
     }
     Turn::Reads(Kept::Same, t.start, k)
 }
@@ -281,23 +239,14 @@ fn turn_on(t: Trail, piece: &[u8]) -> Turn
     ensures { Turning t piece.now result (λ w b s. walked_on w b s piece.now) }
 {
     if piece.len() == 0 {
-        let r = stand(t, Ok(Step::More));
-        return Turn::Stays(r);
+        return Turn::Stays(stand(t, Ok(Step::More)));
     }
     let k = allowed(t.position, piece.len());
-    let stage = t.stage;
-    let way = way_of(stage, t.rest);
-    match way {
+    match way_of(t.stage, t.rest) {
         Way::Begins => begin_header(t, k),
         Way::GoesOn => resume_header(t, k),
-        Way::Passes => {
-            let r = walk_body(t, k);
-            Turn::Stays(r)
-        }
-        Way::Trails(past) => {
-            let r = walk_trailer(t, past, k, piece);
-            Turn::Stays(r)
-        }
+        Way::Passes => Turn::Stays(walk_body(t, k)),
+        Way::Trails(past) => Turn::Stays(walk_trailer(t, past, k, piece)),
     }
 }
 
@@ -316,22 +265,12 @@ fn check_rest(rest: u64, c: Result<(), Refusal>) -> Result<(), Refusal>
 pub fn turn(t: Trail, c: Result<(), Refusal>, piece: &[u8]) -> Turn
     ensures { Turns t c piece.now result }
 {
-    let stage = t.stage;
-    match rests(stage) {
-        Err(e) => {
-            let r = stand(t, Err(e));
-            Turn::Stays(r)
-        }
-        Ok(false) => {
-            let r = stand(t, Ok(Step::End));
-            Turn::Stays(r)
-        }
+    match rests(t.stage) {
+        Err(e) => Turn::Stays(stand(t, Err(e))),
+        Ok(false) => Turn::Stays(stand(t, Ok(Step::End))),
         Ok(true) => match check_rest(t.rest, c) {
             Ok(()) => turn_on(t, piece),
-            Err(e) => {
-                let r = stop(t, e);
-                Turn::Stays(r)
-            }
+            Err(e) => Turn::Stays(stop(t, e)),
         },
     }
 }
@@ -357,20 +296,17 @@ fn opens(t: Trail, taken: usize, o: Result<(u64, u16), Refusal>) -> Trailed
     ensures { Follows t result (λ w. opened_at w.map w.position w.rest w.start taken o) }
 {
     match o {
-        Ok((size, kind)) => {
-            let trail = Trail {
+        Ok((size, kind)) => Trailed {
+            trail: Trail {
                 position: t.position,
                 rest: size,
                 stage: Stage::Body,
                 start: t.start,
-            };
-            Trailed {
-                trail,
-                taken,
-                step: Ok(Step::Record(t.start, t.position, size, kind)),
-                kept: Kept::Same,
-            }
-        }
+            },
+            taken,
+            step: Ok(Step::Record(t.start, t.position, size, kind)),
+            kept: Kept::Same,
+        },
         Err(e) => at_stage(t, Stage::Stopped(e), taken, Err(e), Kept::Same),
     }
 }
@@ -396,15 +332,12 @@ pub fn behind_header(
 fn end_stage(t: Trail) -> Trailed
     ensures { Follows t result (λ w. stage_ended w.stage w) }
 {
-    let stage = t.stage;
-    match stage {
+    match t.stage {
         Stage::Between => at_stage(t, Stage::Ended, 0, Ok(Step::End), Kept::Same),
         Stage::Header => stop_inside(t, Refusal::CutShort),
-        Stage::Body => stop(t, Refusal::CutShort),
-        Stage::Cr => stop(t, Refusal::CutShort),
-        Stage::Lf => stop(t, Refusal::CutShort),
-        Stage::LastCr => stop(t, Refusal::CutShort),
-        Stage::LastLf => stop(t, Refusal::CutShort),
+        Stage::Body | Stage::Cr | Stage::Lf | Stage::LastCr | Stage::LastLf => {
+            stop(t, Refusal::CutShort)
+        }
         Stage::Ended => stand(t, Ok(Step::End)),
         Stage::Stopped(e) => stand(t, Err(e)),
     }
@@ -414,8 +347,7 @@ fn end_stage(t: Trail) -> Trailed
 pub fn end_trail(t: Trail, c: Result<(), Refusal>) -> Trailed
     ensures { Ends t c result }
 {
-    let stage = t.stage;
-    match rests(stage) {
+    match rests(t.stage) {
         Err(e) => stand(t, Err(e)),
         Ok(false) => stand(t, Ok(Step::End)),
         Ok(true) => match check_rest(t.rest, c) {

@@ -1,9 +1,18 @@
 -- `folds::copy_within` meets its contract. Assumes nothing.
-use Rattle.folds.proofs.LineTexts.{within_step, within_end}
+use mathlib.Core.Path.{◌≡◌, ◌∙◌}
+use mathlib.Core.List.{append_assoc}
+use Prim.Native.Nat.{◌+◌, ◌-◌}
+use native.Mathlib.Omega.{arith}
+use lib.ListN.{length, take, drop, length-drop}
+use lib.Seq.{length-take-le}
+use Rattle.leaves.specs.Paste.{pasted}
 use Rattle.folds.proofs.copy_within.Goals as goal
 
-pub loop-i-preserved : goal.loop-i-preserved
-loop-i-preserved c = (within_step c.loop-i.invariant.0 c.loop-i-test.true, c.loop-i.invariant.1)
-
 pub returns : goal.returns
-returns c = rw (← c.loop-i.invariant.1) (within_end c.loop-i.invariant.0 c.loop-i-test.false)
+unfolding pasted
+returns c =
+    let a = c.args in
+    let d = a.store.now in
+    let k = a.«end» - a.from in
+    let e : length (take k (drop a.from d)) ≡ k = length-take-le k (drop a.from d) (omega (arith, c.requires.0, c.requires.1, c.requires.2, length-drop a.from d)) in
+    rw e (c.copy_within.ensures.after ∙ append_assoc (take a.to d) (take k (drop a.from d)) (drop (a.to + k) d))

@@ -7,7 +7,7 @@ use Rattle.lent_reader.proofs.clear.Goals as goal
 pub returns-in-Ok : goal.returns-in-Ok
 returns-in-Ok c =
     let a = c.args in
-    rw (clearing_goes (map_in a.t.now a.h) a.block.now a.store.now (sym c.in-Ok.is ∙ c.check.ensures), c.empty_head-head.ensures)
+    rw (clearing_goes (map_in a.t.now a.h) a.block.now a.store.now (sym c.in-Ok.is ∙ c.check.ensures), c.empty_head.ensures)
     (record { result = refl; block = refl; store = refl })
 
 pub returns-in-Err : goal.returns-in-Err

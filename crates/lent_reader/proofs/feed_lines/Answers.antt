@@ -37,4 +37,4 @@ loop-going-preserved c =
 pub returns : goal.returns
 returns c =
     let l = c.loop-going in
-    rw c.head_after-head.ensures (feed_end (table_of l.t) l.now l.invariant.1 c.loop-going-test.false)
+    rw c.head_after.ensures (feed_end (table_of l.t) l.now l.invariant.1 c.loop-going-test.false)

@@ -9,7 +9,7 @@ use Rattle.lent_walker.proofs.start.Goals as goal
 pub returns-in-Ok : goal.returns-in-Ok
 returns-in-Ok c =
     let a = c.args in
-    λ T. starts (under T a.h) a.room a.position a.block.now a.store.now (made_in T c.begin-made.result) (c.begin-made.ensures T).result c.in-Ok.is _ (ap (λ (x : Head). under T x) c.kept_head-head.ensures)
+    λ T. starts (under T a.h) a.room a.position a.block.now a.store.now (made_in T c.begin-made.result) (c.begin-made.ensures T).result c.in-Ok.is _ (ap (λ (x : Head). under T x) c.kept_head.ensures)
 
 pub returns-in-Err : goal.returns-in-Err
 returns-in-Err c =

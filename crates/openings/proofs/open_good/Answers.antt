@@ -7,7 +7,7 @@ use Rattle.openings.proofs.open_good.Goals as goal
 
 pub spot-z-requires : goal.spot-z-requires
 spot-z-requires c =
-    (ready_of _ c.args.m c.args.block.now c.args.store.now c.requires).few
+    ((ready_of _ c.args.m c.args.block.now c.args.store.now c.requires).few, c.well_formed.0.1.1.0.1.0.1)
 
 pub returns : goal.returns
 returns c =

@@ -1,22 +1,26 @@
 -- `openings::spot` meets its contract. Assumes nothing.
 use Rattle.openings.proofs.SightLaws.{passing_more, passing_end}
-use Rattle.lookups.proofs.SeekLaws.{live_cons, live_end}
+use Rattle.maps.specs.Places.{no_field}
 use Rattle.openings.specs.Sights.{spotted, spots_at}
+use native.Mathlib.Numerals.{add-one}
 use native.Mathlib.Omega.{arith}
 use mathlib.Core.Path.{sym, ap}
-use Prim.Native.Nat.{◌≤◌, ◌<◌}
-use lib.ListN.{length, take}
+use Prim.Native.Nat.{◌≤◌}
+use lib.ListN.{get_or, take, length-take, drop_of_length-le}
+use lib.Seq.{drop-cons}
 use Rattle.openings.proofs.spot.Goals as goal
 
 pub loop-i-preserved : goal.loop-i-preserved
 loop-i-preserved c =
     let a = c.args in
-    let w : a.n ≤ length a.t = omega arith in
-    let h : c.loop-i.i < a.n = omega arith in
-    passing_more a.block.now a.store.now (take a.n a.t) c.loop-i.z c.loop-i.i c.loop-i.invariant (omega arith) _ (live_cons a.t a.n c.loop-i.i w h) _ c.part-key.ensures.is _ c.note-z.ensures
+    let i = c.loop-i.i in
+    let xs = take a.n a.t.now in
+    let l : i ≤ 255 = omega (arith, c.loop-i-test.true, c.requires.0, length-take a.n a.t.now) in
+    passing_more a.block.now a.store.now xs c.loop-i.z i c.loop-i.invariant l (get_or xs i no_field) (rw add-one (drop-cons xs i no_field c.loop-i-test.true)) _ c.part.ensures.is _ c.note-z.ensures
 
 pub returns : goal.returns
 unfolding spotted
 returns c =
     let a = c.args in
-    sym (ap (spots_at a.t) (passing_end a.block.now a.store.now (take a.n a.t) c.loop-i.z c.loop-i.i c.loop-i.invariant (live_end a.t a.n c.loop-i.i c.loop-i-test.false)))
+    let xs = take a.n a.t.now in
+    sym (ap (spots_at a.t.now) (passing_end a.block.now a.store.now xs c.loop-i.z c.loop-i.i c.loop-i.invariant (drop_of_length-le xs c.loop-i-test.false)))

@@ -5,5 +5,5 @@ use Rattle.reader.proofs.begin.Goals as goal
 pub returns : goal.returns
 returns c =
     let a = c.args in
-    rw (c.map_under-map.ensures, c.head_when-head.ensures, c.empty_head-new.ensures, c.head_of-old.ensures)
+    rw (c.under.ensures, c.head_when-head.ensures, c.empty_head-new.ensures, c.head-old.ensures)
     (begun a.m a.limit a.room a.awaits a.quirks a.block.now a.store.now _ c.check_rooms-answer.ensures)

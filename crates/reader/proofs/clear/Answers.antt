@@ -5,5 +5,5 @@ use Rattle.reader.proofs.clear.Goals as goal
 pub returns : goal.returns
 returns c =
     let a = c.args in
-    rw (c.map_under-map.ensures, c.head_when-head.ensures, c.empty_head-cleared.ensures, c.head_of-old.ensures)
-    (cleared a.m a.block.now a.store.now _ c.check-checked.ensures)
+    rw (c.under.ensures, c.head_when-head.ensures, c.empty_head-cleared.ensures, c.head-old.ensures)
+    (cleared a.m a.block.now a.store.now _ c.check-answer.ensures)

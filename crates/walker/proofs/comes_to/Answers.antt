@@ -6,8 +6,8 @@ use Rattle.openings.proofs.OpenLaws.{opening_goes}
 use mathlib.Core.Path.{sym, ap, ◌∙◌}
 use Rattle.walker.proofs.comes_to.Goals as goal
 
-pub returns-in-Ok-Blank : goal.returns-in-Ok-Blank
-returns-in-Ok-Blank c =
+pub returns-in-Blank : goal.returns-in-Blank
+returns-in-Blank c =
     let a = c.args in
-    let e = c.in-Ok-Blank.is ∙ ap Ok (rw c.in-Ok-Blank.is at c.in-Ok-Blank.field-0-is) in
-    rw e (ap (λ (o : Result (ℕ × ℕ) Refusal). Ok (Opens o)) (c.open_good-o.ensures ∙ sym (opening_goes a.m a.block.now a.store.now (c.requires e))))
+    let e = c.in_ok-answer.was ∙ ap Ok c.in-Blank.is in
+    rw e (ap (λ (o : Result (ℕ × ℕ) Refusal). Ok (Opens o)) (c.open_good.ensures ∙ sym (opening_goes a.m a.block.now a.store.now (c.requires e))))

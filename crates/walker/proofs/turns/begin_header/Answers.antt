@@ -14,7 +14,7 @@ returns-then-k-eq0 c =
     let a = c.args in
     λ p e.
     record {
-      gives = λ m b s. between_far (walker_of m a.t) b s p a.k e c.if-k-eq0.true ∙ ap (keeps b s) (sym (c.stop-r.ensures m));
+      gives = λ m b s. between_far (walker_of m a.t) b s p a.k e c.if-k-eq0.true ∙ ap (keeps b s) (sym (c.stop.ensures m));
       reaches = omega arith;
     }
 

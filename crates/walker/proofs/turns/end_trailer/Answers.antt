@@ -14,4 +14,4 @@ pub returns-then-k-n : goal.returns-then-k-n
 returns-then-k-n c = let a = c.args in λ m. c.halt-then-k-n.ensures m ∙ trailer_far (walker_of m a.t) a.past a.k a.n a.same c.if-past-same-eq4.false c.if-same-k.false c.if-k-n.true
 
 pub returns : goal.returns
-returns c = let a = c.args in λ m. c.onward-2.ensures m ∙ trailer_more (walker_of m a.t) a.past a.k a.n a.same c.if-past-same-eq4.false c.if-same-k.false c.if-k-n.false _ c.trailer_stage-stage.ensures
+returns c = let a = c.args in λ m. c.onward-2.ensures m ∙ trailer_more (walker_of m a.t) a.past a.k a.n a.same c.if-past-same-eq4.false c.if-same-k.false c.if-k-n.false _ c.trailer_stage.ensures

@@ -7,12 +7,12 @@ use Rattle.walker.proofs.turns.turn.Goals as goal
 pub returns-in-Err : goal.returns-in-Err
 returns-in-Err c =
     let a = c.args in
-    turn_rests a.t a.c _ c.rests.ensures a.piece.now _ c.in-Err.is _ c.stand-r.ensures
+    turn_rests a.t a.c _ c.rests.ensures a.piece.now _ c.in-Err.is _ c.stand.ensures
 
 pub returns-in-Ok-false : goal.returns-in-Ok-false
 returns-in-Ok-false c =
     let a = c.args in
-    turn_over a.t a.c _ c.rests.ensures a.piece.now (c.in-Ok-false.is ∙ ap Ok c.in-Ok-false.field-0-test) _ c.stand-r-in-Ok-false.ensures
+    turn_over a.t a.c _ c.rests.ensures a.piece.now (c.in-Ok-false.is ∙ ap Ok c.in-Ok-false.field-0-test) _ c.stand-in-Ok-false.ensures
 
 pub returns-in-Ok : goal.returns-in-Ok
 returns-in-Ok c =
@@ -22,4 +22,4 @@ returns-in-Ok c =
 pub returns-in-Err-check_rest : goal.returns-in-Err-check_rest
 returns-in-Err-check_rest c =
     let a = c.args in
-    turn_stops a.t a.c _ c.rests.ensures a.piece.now (c.in-Ok-true.is ∙ ap Ok c.in-Ok-true.field-0-test) _ (sym c.in-Err-check_rest.is ∙ c.check_rest.ensures) _ c.stop-r.ensures
+    turn_stops a.t a.c _ c.rests.ensures a.piece.now (c.in-Ok-true.is ∙ ap Ok c.in-Ok-true.field-0-test) _ (sym c.in-Err-check_rest.is ∙ c.check_rest.ensures) _ c.stop.ensures

@@ -8,4 +8,4 @@ pub returns-then-k-eq0 : goal.returns-then-k-eq0
 returns-then-k-eq0 c = let a = c.args in λ m. c.stop.ensures m ∙ body_far (walker_of m a.t) a.k c.if-k-eq0.true
 
 pub returns : goal.returns
-returns c = let a = c.args in λ m. body_part_lem (walker_of m a.t) a.k c.if-k-eq0.false _ c.lesser-n.ensures
+returns c = let a = c.args in λ m. body_part_lem (walker_of m a.t) a.k c.if-k-eq0.false _ c.min-n.ensures
