@@ -8,8 +8,8 @@ use Prim.Native.Nat.{ℕ, suc, ◌≤◌, ◌<◌}
 use native.Mathlib.Omega.{arith}
 use borrow.Author.Tests.{leb-true, le-leb, lt-leb}
 use lib.Dec.{leb}
-use lib.ListN.{length, get_or, take, drop, length-take, drop_of_length-le}
-use lib.Seq.{drop-cons, get_or-take}
+use lib.ListN.{length, get_or, drop, drop_of_length-le}
+use lib.Seq.{drop-cons}
 use Rattle.leaves.proofs.ChoiceLaws.{and_left, and_right, clash}
 use Rattle.maps.proofs.GoodBy.{good_facts}
 use Rattle.maps.specs.Good.{good_place, good_field, good_fields, good, lent, first_of, checked, checked_reading, checked_done, unless, is_reading, is_done, Ready}
@@ -51,19 +51,15 @@ module _ (count mark : ℕ) where
     pub store_bad : to < from → false ≡ good_place count mark (Store a b)
     store_bad h = and_stop (leb a.0 b.0) (leb b.0 mark) (lt-leb a.0 b.0 (omega arith))
 
-  -- the loop over the table
-  pub fields_next : (t : List Field) (n i : ℕ) (d : Field) → i < n → n ≤ length t
-      → good_fields count mark (drop i (take n t)) ≡ (good_field count mark (get_or t i d) && good_fields count mark (drop (suc i) (take n t)))
+  -- the loop over the fields
+  pub fields_next : (xs : List Field) (i : ℕ) (d : Field) → i < length xs
+      → good_fields count mark (drop i xs) ≡ (good_field count mark (get_or xs i d) && good_fields count mark (drop (suc i) xs))
   unfolding good_fields
-  fields_next t n i d h k =
-      let l : i < length (take n t) = omega (arith, length-take n t) in
-      rw (drop-cons (take n t) i d l, get_or-take n t i d h)
+  fields_next xs i d h = rw (drop-cons xs i d h)
 
-  pub fields_end : (t : List Field) (n i : ℕ) → n ≤ i → good_fields count mark (drop i (take n t)) ≡ true
+  pub fields_end : (xs : List Field) (i : ℕ) → length xs ≤ i → good_fields count mark (drop i xs) ≡ true
   unfolding good_fields
-  fields_end t n i h =
-      let l : length (take n t) ≤ i = omega (arith, length-take n t) in
-      rw (drop_of_length-le (take n t) l)
+  fields_end xs i h = rw (drop_of_length-le xs h)
 
 pub no_fields : (count mark : ℕ) → good_fields count mark [] ≡ true
 unfolding good_fields

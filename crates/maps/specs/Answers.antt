@@ -1,9 +1,7 @@
 -- The first checks as a number. Assumes nothing.
 use Rattle.leaves.specs.Answers.{done_or}
 use Rattle.leaves.specs.declared.refusals.Refusal.{Refusal}
-use Rattle.std.specs.Prelude.{ℕ, Err, Ok, Result, ⊤}
-use Rattle.leaves.specs.Numbers.{done}
-use Rattle.leaves.specs.Refusals.{number}
+use Rattle.std.specs.Prelude.{ℕ, Result, ⊤}
 
 -- what the first checks say
 abbrev pub told : Result ⊤ Refusal → ℕ

@@ -203,20 +203,12 @@ fn good_place(p: Place, count: usize, mark: usize) -> bool
 {
     match p {
         Place::Block(a, e) => {
-            let from = wide(a.0);
             let end = wide(e.0);
-            if from <= end {
-                return end <= count;
-            }
-            false
+            wide(a.0) <= end && end <= count
         }
         Place::Store(a, e) => {
-            let from = wide(a.0);
             let end = wide(e.0);
-            if from <= end {
-                return end <= mark;
-            }
-            false
+            wide(a.0) <= end && end <= mark
         }
     }
 }
@@ -233,12 +225,7 @@ pub fn good_status(s: Option<Place>, count: usize, mark: usize) -> bool
 pub fn good_field(f: Field, count: usize, mark: usize) -> bool
     ensures { result ≡ good_field count mark f }
 {
-    let key = f.key;
-    let value = f.value;
-    if good_place(key, count, mark) {
-        return good_place(value, count, mark);
-    }
-    false
+    good_place(f.key, count, mark) && good_place(f.value, count, mark)
 }
 
 // Whether the first n fields of the table are good.
@@ -246,12 +233,8 @@ fn good_fields(t: [Field; 256], n: usize, count: usize, mark: usize) -> bool
     requires { n ≤ 256 }
     ensures { result ≡ good_fields count mark (take n t) }
 {
-    let mut i = 0;
-    while i < n {
-        let f = t[i];
-        if good_field(f, count, mark) {
-            i += 1;
-        } else {
+    for f in &t[..n] {
+        if !good_field(*f, count, mark) {
             return false;
         }
     }
@@ -261,13 +244,7 @@ fn good_fields(t: [Field; 256], n: usize, count: usize, mark: usize) -> bool
 pub fn good_rooms(limit: usize, room: usize) -> bool
     ensures { result ≡ good_rooms limit room }
 {
-    if limit <= LARGEST {
-        if limit <= room {
-            return room <= LARGEST;
-        }
-        return false;
-    }
-    false
+    limit <= LARGEST && limit <= room && room <= LARGEST
 }
 
 pub fn good_counts(
@@ -280,89 +257,59 @@ pub fn good_counts(
 ) -> bool
     ensures { result ≡ good_counts limit room count mark line fields }
 {
-    if count <= limit {
-        if mark <= room {
-            if line <= count {
-                return fields <= FIELDS;
-            }
-            return false;
-        }
-        return false;
-    }
-    false
+    count <= limit && mark <= room && line <= count && fields <= FIELDS
 }
 
 // 3 is not given: the map is good. A map without fields is judged without its table, which would be copied.
 fn is_good(m: HeaderMap) -> bool
     ensures { result ≡ good m }
 {
-    let limit = m.limit;
-    let room = m.room;
-    let count = m.count;
-    let mark = m.mark;
-    let line = m.line;
-    let fields = m.fields;
-    let status = m.status;
-    if good_rooms(limit, room) {
-        if good_counts(limit, room, count, mark, line, fields) {
-            if good_status(status, count, mark) {
-                if fields == 0 {
-                    return true;
-                }
-                let t = m.table;
-                return good_fields(t, fields, count, mark);
-            }
-            return false;
-        }
+    if !good_rooms(m.limit, m.room) {
         return false;
     }
-    false
+    if !good_counts(m.limit, m.room, m.count, m.mark, m.line, m.fields) {
+        return false;
+    }
+    if !good_status(m.status, m.count, m.mark) {
+        return false;
+    }
+    m.fields == 0 || good_fields(m.table, m.fields, m.count, m.mark)
 }
 
 // What every call but begin checks first: 3, 2, 7. Ready says whether the map's phase is the one that the call wants.
 pub fn check(m: HeaderMap, ready: bool, block: usize, store: usize) -> Result<(), Refusal>
     ensures { result ≡ checked ready m block store }
 {
-    let limit = m.limit;
-    let room = m.room;
-    if is_good(m) {
-        if limit <= block {
-            if room <= store {
-                if ready {
-                    return Ok(());
-                }
-                return Err(Refusal::WrongPhase);
-            }
-            return Err(Refusal::ShortLoan);
-        }
+    if !is_good(m) {
+        return Err(Refusal::BadMap);
+    }
+    if block < m.limit {
         return Err(Refusal::ShortLoan);
     }
-    Err(Refusal::BadMap)
+    if store < m.room {
+        return Err(Refusal::ShortLoan);
+    }
+    if !ready {
+        return Err(Refusal::WrongPhase);
+    }
+    Ok(())
 }
 
 pub fn is_reading(p: Phase) -> bool
     ensures { result ≡ is_reading p }
 {
-    match p {
-        Phase::Reading => true,
-        Phase::Done => false,
-    }
+    matches!(p, Phase::Reading)
 }
 
 pub fn is_done(p: Phase) -> bool
     ensures { result ≡ is_done p }
 {
-    match p {
-        Phase::Reading => false,
-        Phase::Done => true,
-    }
+    matches!(p, Phase::Done)
 }
 
 // The first checks of a call that wants a map that is Done.
 pub fn check_done(m: HeaderMap, block: &[u8], store: &[u8]) -> Result<(), Refusal>
     ensures { result ≡ checked_done m block.now store.now }
 {
-    let phase = m.phase;
-    let ready = is_done(phase);
-    check(m, ready, block.len(), store.len())
+    check(m, is_done(m.phase), block.len(), store.len())
 }

@@ -5,17 +5,24 @@ use Rattle.maps.proofs.GoodLaws.{and_go, and_stop, checked_bad, checked_short, c
 use Rattle.leaves.proofs.ChoiceLaws.{and_both}
 use Rattle.maps.proofs.check.Goals as goal
 
-pub returns-then-ready : goal.returns-then-ready
-returns-then-ready c = checked_fine c.args.ready c.args.m c.args.block c.args.store (sym c.is_good.ensures ∙ c.if-is_good.true) (and_both _ _ (le-leb _ _ c.if-limit-block.true) (le-leb _ _ c.if-room-store.true)) c.if-ready.true
+pub returns-then-not-is_good : goal.returns-then-not-is_good
+returns-then-not-is_good c = checked_bad c.args.ready c.args.m c.args.block c.args.store (sym c.is_good.ensures ∙ c.if-not-is_good.true)
 
-pub returns-then-room-store : goal.returns-then-room-store
-returns-then-room-store c = checked_wrong c.args.ready c.args.m c.args.block c.args.store (sym c.is_good.ensures ∙ c.if-is_good.true) (and_both _ _ (le-leb _ _ c.if-limit-block.true) (le-leb _ _ c.if-room-store.true)) c.if-ready.false
+pub returns-then-block-m : goal.returns-then-block-m
+returns-then-block-m c =
+    checked_short c.args.ready c.args.m c.args.block c.args.store (sym c.is_good.ensures ∙ c.if-not-is_good.false) (sym (and_stop _ _ (lt-leb _ _ c.if-block-m.true)))
 
-pub returns-then-limit-block : goal.returns-then-limit-block
-returns-then-limit-block c = checked_short c.args.ready c.args.m c.args.block c.args.store (sym c.is_good.ensures ∙ c.if-is_good.true) (sym (and_go _ _ (le-leb _ _ c.if-limit-block.true)) ∙ lt-leb _ _ c.if-room-store.false)
+pub returns-then-store-m : goal.returns-then-store-m
+returns-then-store-m c =
+    checked_short c.args.ready c.args.m c.args.block c.args.store (sym c.is_good.ensures ∙ c.if-not-is_good.false)
+    (sym (and_go _ _ (le-leb _ _ c.if-block-m.false)) ∙ lt-leb _ _ c.if-store-m.true)
 
-pub returns-then-is_good : goal.returns-then-is_good
-returns-then-is_good c = checked_short c.args.ready c.args.m c.args.block c.args.store (sym c.is_good.ensures ∙ c.if-is_good.true) (sym (and_stop _ _ (lt-leb _ _ c.if-limit-block.false)))
+pub returns-then-not-ready : goal.returns-then-not-ready
+returns-then-not-ready c =
+    checked_wrong c.args.ready c.args.m c.args.block c.args.store (sym c.is_good.ensures ∙ c.if-not-is_good.false)
+    (and_both _ _ (le-leb _ _ c.if-block-m.false) (le-leb _ _ c.if-store-m.false)) c.if-not-ready.true
 
 pub returns : goal.returns
-returns c = checked_bad c.args.ready c.args.m c.args.block c.args.store (sym c.is_good.ensures ∙ c.if-is_good.false)
+returns c =
+    checked_fine c.args.ready c.args.m c.args.block c.args.store (sym c.is_good.ensures ∙ c.if-not-is_good.false)
+    (and_both _ _ (le-leb _ _ c.if-block-m.false) (le-leb _ _ c.if-store-m.false)) c.if-not-ready.false
