@@ -106,7 +106,8 @@ fn put_field(slot: usize, key: Place, from: usize, to: usize) -> Result<Change, 
     Ok(Change::Put(slot, Field { key, value }, to))
 }
 
-// The text as a new value at the mark.
+// The text as a new value at the mark. Here and below, a slot, its key, the room and the mark stand one by one and in no struct, since
+// `grown`, `folded` and `rule4` take them so, and the calls that other crates make, rule_four and line_change.
 fn grow_new(
     store: &mut [u8],
     room: usize,

@@ -21,7 +21,7 @@ pub enum Answer {
 }
 
 // What a line did: the head after it, what it changes in the table, how far the piece is taken, the answer, and whether the reading
-// goes on.
+// goes on. The answer does not tell that: more is wanted behind a line, where it goes on, and at a piece's end, where it does not.
 #[derive(Clone, Copy)]
 pub struct Handled {
     pub head: Head,

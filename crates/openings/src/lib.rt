@@ -15,7 +15,8 @@ use standard::types;
 // The largest Content-Length.
 pub const CAP: u64 = 1099511627776;
 
-// The number of the first field of a name that was seen, and how many were: 2 is two or more.
+// The number of the first field of a name that was seen, and how many were: 2 is two or more. A count, and no enum, since the contracts of
+// note, open_spots and of the lent walker's pass are written on it (`seen`, `spots_at`, `length_text`, `kind_code`).
 #[derive(Clone, Copy)]
 pub struct Sight {
     pub at: usize,

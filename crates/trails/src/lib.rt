@@ -13,22 +13,14 @@ use walker::{Stage, Trail};
 pub const TRAIL: usize = 4;
 
 // Whether numbers are a trail's.
+#[tactic(auto, unfolding(crate::specs::Trail::sound_trail))]
 pub fn is_sound(n: &[u64]) -> bool
     ensures { result ≡ sound_trail n.now }
 {
-    if n.len() == TRAIL {
-        return n[3] < 21;
-    }
-    false
+    n.len() == TRAIL && n[3] < 21
 }
 
-fn stopped_number(e: Refusal) -> u64
-    ensures { result ≡ staged (Stage.Stopped e) }
-{
-    let n = refusals::number(e);
-    7 + (n as u64)
-}
-
+// Not a From, since neither Stage nor u64 is of this crate.
 fn stage_number(stage: Stage) -> u64
     ensures { result ≡ staged stage }
 {
@@ -41,7 +33,7 @@ fn stage_number(stage: Stage) -> u64
         Stage::LastCr => 5,
         Stage::LastLf => 6,
         Stage::Ended => 7,
-        Stage::Stopped(e) => stopped_number(e),
+        Stage::Stopped(e) => 7 + (refusals::number(e) as u64),
     }
 }
 
@@ -65,6 +57,7 @@ fn refusal_of(n: u64) -> Refusal
     }
 }
 
+#[tactic(auto, using(leaves::proofs::ChoiceLaws::choices), unfolding(crate::specs::Trail::low_stage))]
 fn low_stage(n: u64) -> Stage
     ensures { result ≡ low_stage n }
 {
@@ -84,10 +77,10 @@ fn stage_of(n: u64) -> Stage
     ensures { result ≡ stage_of n }
 {
     if n < 8 {
-        return low_stage(n);
+        low_stage(n)
+    } else {
+        Stage::Stopped(refusal_of(n - 7))
     }
-    let e = refusal_of(n - 7);
-    Stage::Stopped(e)
 }
 
 // The trail that numbers are.
@@ -95,11 +88,10 @@ pub fn trail_at(n: &[u64]) -> Trail
     requires { length n.now ≡ 4 }
     ensures { result ≡ trail_of n.now }
 {
-    let stage = stage_of(n[3]);
     Trail {
         position: n[0],
         rest: n[1],
-        stage,
+        stage: stage_of(n[3]),
         start: n[2],
     }
 }
@@ -109,9 +101,8 @@ pub fn put_trail(n: &mut [u64], w: Trail)
     requires { length n.old ≡ 4 }
     ensures { n.new ≡ trail_numbers w }
 {
-    let stage = w.stage;
     n[0] = w.position;
     n[1] = w.rest;
     n[2] = w.start;
-    n[3] = stage_number(stage);
+    n[3] = stage_number(w.stage);
 }

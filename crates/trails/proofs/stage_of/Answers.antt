@@ -10,6 +10,6 @@ pub returns-then-n-lt8 : goal.returns-then-n-lt8
 unfolding stage_of
 returns-then-n-lt8 c = c.low_stage.ensures ∙ sym (if_true _ _ (lt-ltb _ _ c.if-n-lt8.true))
 
-pub returns : goal.returns
+pub returns-else-n-lt8 : goal.returns-else-n-lt8
 unfolding stage_of
-returns c = ap Stopped c.refusal_of-e.ensures ∙ sym (if_false _ _ (le-ltb _ _ c.if-n-lt8.false))
+returns-else-n-lt8 c = ap Stopped c.refusal_of.ensures ∙ sym (if_false _ _ (le-ltb _ _ c.if-n-lt8.false))
