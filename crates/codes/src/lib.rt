@@ -39,7 +39,7 @@ pub fn status_code<'a>(
 pub fn has_reason<'a>(m: HeaderMap, block: &'a [u8], store: &'a [u8]) -> Result<bool, Refusal>
     ensures { result ≡ reasoning m block.now store.now }
 {
-    maps::check_done(m, block, store)?; // the answer of a map that can be looked at
+    maps::check_done(m, block, store)?; // from here on the map can be looked at
     let text = status_text(m.status, block, store);
     Ok(line::reason_start(text).is_some())
 }
