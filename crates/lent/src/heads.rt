@@ -12,16 +12,10 @@ fn is_sound_status(kind: u64, from: u64, to: u64) -> bool
     ensures { result ≡ sound_status kind from to }
 {
     if kind == 0 {
-        if from == 0 {
-            return to == 0;
-        }
-        return false;
+        return from == 0 && to == 0;
     }
     if kind <= 2 {
-        if from < 4294967296 {
-            return to < 4294967296;
-        }
-        return false;
+        return from < 4294967296 && to < 4294967296;
     }
     false
 }
@@ -30,22 +24,22 @@ fn is_sound_status(kind: u64, from: u64, to: u64) -> bool
 pub fn is_sound(n: &[u64]) -> bool
     ensures { result ≡ sound_head n.now }
 {
-    if n.len() == HEAD {
-        if is_sound_status(n[6], n[7], n[8]) {
-            if n[9] <= 1 {
-                if n[10] <= 1 {
-                    if n[11] <= 1 {
-                        return n[12] <= 1;
-                    }
-                    return false;
-                }
-                return false;
-            }
-            return false;
-        }
+    if n.len() != HEAD {
         return false;
     }
-    false
+    if !is_sound_status(n[6], n[7], n[8]) {
+        return false;
+    }
+    if n[9] > 1 {
+        return false;
+    }
+    if n[10] > 1 {
+        return false;
+    }
+    if n[11] > 1 {
+        return false;
+    }
+    n[12] <= 1
 }
 
 fn status_of(kind: u64, from: u64, to: u64) -> Option<Place>
@@ -64,10 +58,7 @@ fn status_of(kind: u64, from: u64, to: u64) -> Option<Place>
 fn phase_of(n: u64) -> Phase
     ensures { result ≡ phase_of n }
 {
-    if n == 1 {
-        return Phase::Reading;
-    }
-    Phase::Done
+    if n == 1 { Phase::Reading } else { Phase::Done }
 }
 
 // The head that numbers are.
@@ -76,8 +67,6 @@ pub fn head_at(n: &[u64]) -> Head
     requires { sound_head n.now ≡ true }
     ensures { result ≡ head_of n.now }
 {
-    let status = status_of(n[6], n[7], n[8]);
-    let phase = phase_of(n[12]);
     Head {
         limit: n[0] as usize,
         room: n[1] as usize,
@@ -85,11 +74,11 @@ pub fn head_at(n: &[u64]) -> Head
         line: n[3] as usize,
         mark: n[4] as usize,
         fields: n[5] as usize,
-        status,
+        status: status_of(n[6], n[7], n[8]),
         awaits: n[9] == 1,
         quirks: n[10] == 1,
         edited: n[11] == 1,
-        phase,
+        phase: phase_of(n[12]),
     }
 }
 
@@ -98,10 +87,8 @@ fn kind_of(s: Option<Place>) -> u64
 {
     match s {
         None => 0,
-        Some(p) => match p {
-            Place::Block(a, e) => 1,
-            Place::Store(a, e) => 2,
-        },
+        Some(Place::Block(_, _)) => 1,
+        Some(Place::Store(_, _)) => 2,
     }
 }
 
@@ -110,10 +97,8 @@ fn from_of(s: Option<Place>) -> u64
 {
     match s {
         None => 0,
-        Some(p) => match p {
-            Place::Block(a, e) => a.0 as u64,
-            Place::Store(a, e) => a.0 as u64,
-        },
+        Some(Place::Block(a, _)) => u64::from(a.0),
+        Some(Place::Store(a, _)) => u64::from(a.0),
     }
 }
 
@@ -122,17 +107,15 @@ fn to_of(s: Option<Place>) -> u64
 {
     match s {
         None => 0,
-        Some(p) => match p {
-            Place::Block(a, e) => e.0 as u64,
-            Place::Store(a, e) => e.0 as u64,
-        },
+        Some(Place::Block(_, e)) => u64::from(e.0),
+        Some(Place::Store(_, e)) => u64::from(e.0),
     }
 }
 
 fn flag_of(b: bool) -> u64
     ensures { result ≡ flag_of b }
 {
-    if b { 1 } else { 0 }
+    u64::from(b)
 }
 
 fn number_of(p: Phase) -> u64
@@ -149,21 +132,19 @@ pub fn put_head(n: &mut [u64], h: Head)
     requires { length n.old ≡ 13 }
     ensures { n.new ≡ head_numbers h }
 {
-    let status = h.status;
-    let phase = h.phase;
     n[0] = h.limit as u64;
     n[1] = h.room as u64;
     n[2] = h.count as u64;
     n[3] = h.line as u64;
     n[4] = h.mark as u64;
     n[5] = h.fields as u64;
-    n[6] = kind_of(status);
-    n[7] = from_of(status);
-    n[8] = to_of(status);
+    n[6] = kind_of(h.status);
+    n[7] = from_of(h.status);
+    n[8] = to_of(h.status);
     n[9] = flag_of(h.awaits);
     n[10] = flag_of(h.quirks);
     n[11] = flag_of(h.edited);
-    n[12] = number_of(phase);
+    n[12] = number_of(h.phase);
 }
 
 // The head of the first map of a caller.

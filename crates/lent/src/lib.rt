@@ -18,26 +18,15 @@ use maps::{BlockOffset, Field, Head, HeaderMap, Place};
 pub const TABLE: usize = 1024;
 
 // 3 is not given: the map is good.
+#[tactic(auto, unfolding(maps::specs::Good::good))]
 fn is_good(h: Head, t: &[u32]) -> bool
     requires { length t.now ≡ 1024 }
     ensures { result ≡ good (map_in t.now h) }
 {
-    let limit = h.limit;
-    let room = h.room;
-    let count = h.count;
-    let mark = h.mark;
-    let fields = h.fields;
-    let status = h.status;
-    if maps::good_rooms(limit, room) {
-        if maps::good_counts(limit, room, count, mark, h.line, fields) {
-            if maps::good_status(status, count, mark) {
-                return tables::good_fields(t, fields, count, mark);
-            }
-            return false;
-        }
-        return false;
-    }
-    false
+    maps::good_rooms(h.limit, h.room)
+        && maps::good_counts(h.limit, h.room, h.count, h.mark, h.line, h.fields)
+        && maps::good_status(h.status, h.count, h.mark)
+        && tables::good_fields(t, h.fields, h.count, h.mark)
 }
 
 // What every call but begin checks first: 3, 2, 7. Ready says whether the map's phase is the one that the call wants.
@@ -45,31 +34,27 @@ pub fn check(h: Head, t: &[u32], ready: bool, block: usize, store: usize) -> Res
     requires { length t.now ≡ 1024 }
     ensures { result ≡ checked ready (map_in t.now h) block store }
 {
-    let limit = h.limit;
-    let room = h.room;
-    if is_good(h, t) {
-        if limit <= block {
-            if room <= store {
-                if ready {
-                    return Ok(());
-                }
-                return Err(Refusal::WrongPhase);
-            }
-            return Err(Refusal::ShortLoan);
-        }
+    if !is_good(h, t) {
+        return Err(Refusal::BadMap);
+    }
+    if block < h.limit {
         return Err(Refusal::ShortLoan);
     }
-    Err(Refusal::BadMap)
+    if store < h.room {
+        return Err(Refusal::ShortLoan);
+    }
+    if ready {
+        Ok(())
+    } else {
+        Err(Refusal::WrongPhase)
+    }
 }
 
 // How many fields a map holds of n.
 fn few(n: usize) -> usize
     ensures { result ≡ min n 256 }
 {
-    if n <= maps::FIELDS {
-        return n;
-    }
-    maps::FIELDS
+    n.min(maps::FIELDS)
 }
 
 // A table by value: the first n fields, and behind them what was never used.
@@ -82,11 +67,8 @@ fn live_table(t: &[u32], n: usize) -> [Field; 256]
         value: Place::Block(BlockOffset(0), BlockOffset(0)),
     };
     let mut table = [none; 256];
-    let mut i = 0;
-    while i < n {
-        let f = tables::field_at(t, i);
-        table[i] = f;
-        i += 1;
+    for i in 0..n {
+        table[i] = tables::field_at(t, i);
     }
     table
 }
@@ -96,9 +78,7 @@ pub fn check_done(h: Head, t: &[u32], block: &[u8], store: &[u8]) -> Result<(), 
     requires { length t.now ≡ 1024 }
     ensures { result ≡ checked_done (map_in t.now h) block.now store.now }
 {
-    let phase = h.phase;
-    let ready = maps::is_done(phase);
-    check(h, t, ready, block.len(), store.len())
+    check(h, t, maps::is_done(h.phase), block.len(), store.len())
 }
 
 // The map by value, with the fields that count alone.
@@ -106,10 +86,7 @@ pub fn live_map(h: Head, t: &[u32]) -> HeaderMap
     requires { length t.now ≡ 1024 }
     ensures { result ≡ live_in t.now h }
 {
-    let n = few(h.fields);
-    let table = live_table(t, n);
-    let status = h.status;
-    let phase = h.phase;
+    let table = live_table(t, few(h.fields));
     HeaderMap {
         table,
         limit: h.limit,
@@ -118,11 +95,11 @@ pub fn live_map(h: Head, t: &[u32]) -> HeaderMap
         line: h.line,
         mark: h.mark,
         fields: h.fields,
-        status,
+        status: h.status,
         awaits: h.awaits,
         quirks: h.quirks,
         edited: h.edited,
-        phase,
+        phase: h.phase,
     }
 }
 
@@ -131,10 +108,7 @@ pub fn live_map(h: Head, t: &[u32]) -> HeaderMap
 pub fn is_sound(n: &[u64], t: &[u32]) -> bool
     ensures { result ≡ sound_map n.now t.now }
 {
-    if heads::is_sound(n) {
-        return t.len() == TABLE;
-    }
-    false
+    heads::is_sound(n) && t.len() == TABLE
 }
 
 // Whether numbers are as many as a map's.
@@ -142,10 +116,7 @@ pub fn is_sound(n: &[u64], t: &[u32]) -> bool
 pub fn is_long(n: &[u64], t: &[u32]) -> bool
     ensures { result ≡ long_map n.now t.now }
 {
-    if n.len() == heads::HEAD {
-        return t.len() == TABLE;
-    }
-    false
+    n.len() == heads::HEAD && t.len() == TABLE
 }
 
 // The map that numbers are, by value, with the fields that count alone.
@@ -153,6 +124,5 @@ pub fn live_at(n: &[u64], t: &[u32]) -> HeaderMap
     requires { sound_map n.now t.now ≡ true }
     ensures { result ≡ live_in t.now (head_of n.now) }
 {
-    let h = heads::head_at(n);
-    live_map(h, t)
+    live_map(heads::head_at(n), t)
 }

@@ -23,9 +23,7 @@ fn place_at(t: &[u32], at: usize) -> Place
     requires { at + 1 < length t.now }
     ensures { result ≡ place_at t.now at }
 {
-    let from = t[at];
-    let to = t[at + 1];
-    place_of(from, to)
+    place_of(t[at], t[at + 1])
 }
 
 // The field i.
@@ -33,9 +31,10 @@ pub fn field_at(t: &[u32], i: usize) -> Field
     requires { (i < 256) × (length t.now ≡ 1024) }
     ensures { result ≡ field_at t.now i }
 {
-    let key = place_at(t, i * 4);
-    let value = place_at(t, i * 4 + 2);
-    Field { key, value }
+    Field {
+        key: place_at(t, i * 4),
+        value: place_at(t, i * 4 + 2),
+    }
 }
 
 fn from_of(p: Place) -> u32
@@ -43,8 +42,8 @@ fn from_of(p: Place) -> u32
     ensures { result ≡ from_of p }
 {
     match p {
-        Place::Block(a, e) => a.0,
-        Place::Store(a, e) => STORE + a.0,
+        Place::Block(a, _) => a.0,
+        Place::Store(a, _) => STORE + a.0,
     }
 }
 
@@ -52,8 +51,8 @@ fn to_of(p: Place) -> u32
     ensures { result ≡ to_of p }
 {
     match p {
-        Place::Block(a, e) => e.0,
-        Place::Store(a, e) => e.0,
+        Place::Block(_, e) => e.0,
+        Place::Store(_, e) => e.0,
     }
 }
 
@@ -70,37 +69,24 @@ pub fn put_field(t: &mut [u32], i: usize, f: Field)
     requires { (i < 256) × (length t.old ≡ 1024) × Fit 65536 65536 f }
     ensures { t.new ≡ field_put t.old i f }
 {
-    let key = f.key;
-    let value = f.value;
-    put_place(t, i * 4, key);
-    put_place(t, i * 4 + 2, value);
+    put_place(t, i * 4, f.key);
+    put_place(t, i * 4 + 2, f.value);
 }
 
 // Whether two numbers are a good place of the store.
 fn good_stored(from: u32, to: u32, mark: usize) -> bool
     ensures { result ≡ good_stored mark from to }
 {
-    if from < STORE {
-        return false;
-    }
-    if from - STORE <= to {
-        return (to as usize) <= mark;
-    }
-    false
+    from >= STORE && from - STORE <= to && (to as usize) <= mark
 }
 
 // Whether the place of two numbers is good. Most places are the block's: two comparisons of the numbers as they stand tell a good one.
+#[tactic(auto, using(crate::proofs::LentLaws::place_plain, crate::proofs::LentLaws::place_over, crate::proofs::LentLaws::place_turned))]
 fn good_place(from: u32, to: u32, count: usize, mark: usize) -> bool
     requires { count ≤ 65536 }
     ensures { result ≡ good_place count mark (place_of from to) }
 {
-    if from <= to {
-        if (to as usize) <= count {
-            return true;
-        }
-        return good_stored(from, to, mark);
-    }
-    good_stored(from, to, mark)
+    from <= to && (to as usize) <= count || good_stored(from, to, mark)
 }
 
 fn good_field(t: &[u32], i: usize, count: usize, mark: usize) -> bool
@@ -109,10 +95,7 @@ fn good_field(t: &[u32], i: usize, count: usize, mark: usize) -> bool
 {
     let key = i * 4;
     let value = key + 2;
-    if good_place(t[key], t[key + 1], count, mark) {
-        return good_place(t[value], t[value + 1], count, mark);
-    }
-    false
+    good_place(t[key], t[key + 1], count, mark) && good_place(t[value], t[value + 1], count, mark)
 }
 
 // Whether the first n fields are good.
@@ -120,11 +103,8 @@ pub fn good_fields(t: &[u32], n: usize, count: usize, mark: usize) -> bool
     requires { (n ≤ 256) × (length t.now ≡ 1024) × (count ≤ 65536) }
     ensures { result ≡ good_fields count mark (fields_from t.now 0 n) }
 {
-    let mut i = 0;
-    while i < n {
-        if good_field(t, i, count, mark) {
-            i += 1;
-        } else {
+    for i in 0..n {
+        if !good_field(t, i, count, mark) {
             return false;
         }
     }

@@ -6,17 +6,17 @@ use Rattle.maps.proofs.GoodLaws.{and_go, and_stop, checked_bad, checked_short, c
 use Rattle.leaves.proofs.ChoiceLaws.{and_both}
 use Rattle.lent.proofs.check.Goals as goal
 
+pub returns-then-not-is_good : goal.returns-then-not-is_good
+returns-then-not-is_good c = checked_bad c.args.ready (map_in c.args.t.now c.args.h) c.args.block c.args.store (sym c.is_good.ensures ∙ c.if-not-is_good.true)
+
+pub returns-then-block-h : goal.returns-then-block-h
+returns-then-block-h c = checked_short c.args.ready (map_in c.args.t.now c.args.h) c.args.block c.args.store (sym c.is_good.ensures ∙ c.if-not-is_good.false) (sym (and_stop _ _ (lt-leb _ _ c.if-block-h.true)))
+
+pub returns-then-store-h : goal.returns-then-store-h
+returns-then-store-h c = checked_short c.args.ready (map_in c.args.t.now c.args.h) c.args.block c.args.store (sym c.is_good.ensures ∙ c.if-not-is_good.false) (sym (and_go _ _ (le-leb _ _ c.if-block-h.false)) ∙ lt-leb _ _ c.if-store-h.true)
+
 pub returns-then-ready : goal.returns-then-ready
-returns-then-ready c = checked_fine c.args.ready (map_in c.args.t.now c.args.h) c.args.block c.args.store (sym c.is_good.ensures ∙ c.if-is_good.true) (and_both _ _ (le-leb _ _ c.if-limit-block.true) (le-leb _ _ c.if-room-store.true)) c.if-ready.true
+returns-then-ready c = checked_fine c.args.ready (map_in c.args.t.now c.args.h) c.args.block c.args.store (sym c.is_good.ensures ∙ c.if-not-is_good.false) (and_both _ _ (le-leb _ _ c.if-block-h.false) (le-leb _ _ c.if-store-h.false)) c.if-ready.true
 
-pub returns-then-room-store : goal.returns-then-room-store
-returns-then-room-store c = checked_wrong c.args.ready (map_in c.args.t.now c.args.h) c.args.block c.args.store (sym c.is_good.ensures ∙ c.if-is_good.true) (and_both _ _ (le-leb _ _ c.if-limit-block.true) (le-leb _ _ c.if-room-store.true)) c.if-ready.false
-
-pub returns-then-limit-block : goal.returns-then-limit-block
-returns-then-limit-block c = checked_short c.args.ready (map_in c.args.t.now c.args.h) c.args.block c.args.store (sym c.is_good.ensures ∙ c.if-is_good.true) (sym (and_go _ _ (le-leb _ _ c.if-limit-block.true)) ∙ lt-leb _ _ c.if-room-store.false)
-
-pub returns-then-is_good : goal.returns-then-is_good
-returns-then-is_good c = checked_short c.args.ready (map_in c.args.t.now c.args.h) c.args.block c.args.store (sym c.is_good.ensures ∙ c.if-is_good.true) (sym (and_stop _ _ (lt-leb _ _ c.if-limit-block.false)))
-
-pub returns : goal.returns
-returns c = checked_bad c.args.ready (map_in c.args.t.now c.args.h) c.args.block c.args.store (sym c.is_good.ensures ∙ c.if-is_good.false)
+pub returns-else-ready : goal.returns-else-ready
+returns-else-ready c = checked_wrong c.args.ready (map_in c.args.t.now c.args.h) c.args.block c.args.store (sym c.is_good.ensures ∙ c.if-not-is_good.false) (and_both _ _ (le-leb _ _ c.if-block-h.false) (le-leb _ _ c.if-store-h.false)) c.if-ready.false

@@ -14,7 +14,7 @@ pub loop-i-preserved : goal.loop-i-preserved
 loop-i-preserved c =
     let l = c.loop-i in
     let h : l.i < 256 = omega arith in
-    (search rules, search rules, out_step c.args.t.now (replicate 256 no_field) refl l.table l.i _ h c.field_at-f.ensures l.invariant.2)
+    (search rules, search rules, out_step c.args.t.now (replicate 256 no_field) refl l.table l.i _ h c.field_at.ensures l.invariant.2)
 
 pub returns : goal.returns
 returns c = out_end c.args.t.now (replicate 256 no_field) refl c.loop-i.table c.args.n c.loop-i.i c.requires.0 c.loop-i.invariant.0 c.loop-i-test.false c.loop-i.invariant.2

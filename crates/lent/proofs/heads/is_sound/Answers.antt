@@ -5,26 +5,26 @@ use Rattle.lent.specs.Numbers.{sound_head}
 use mathlib.Core.Path.{sym, ◌∙◌}
 use Rattle.lent.proofs.heads.is_sound.Goals as goal
 
-pub returns-then-n-le1-3 : goal.returns-then-n-le1-3
+pub returns-then-n-ne-HEAD : goal.returns-then-n-ne-HEAD
 unfolding sound_head
-returns-then-n-le1-3 c = and_go _ _ (le-leb _ _ c.if-n-le1-3.true) ∙ and_go _ _ (le-leb _ _ c.if-n-le1-2.true) ∙ and_go _ _ (le-leb _ _ c.if-n-le1.true) ∙ and_go _ _ (sym c.is_sound_status.ensures ∙ c.if-is_sound_status.true) ∙ and_go _ _ (eq-eqb _ _ c.if-n-eq-HEAD.true)
+returns-then-n-ne-HEAD c = and_stop _ _ (ne_eqb _ _ c.if-n-ne-HEAD.true)
 
-pub returns-then-n-le1-2 : goal.returns-then-n-le1-2
+pub returns-then-not-is_sound_status : goal.returns-then-not-is_sound_status
 unfolding sound_head
-returns-then-n-le1-2 c = and_stop _ _ (lt-leb _ _ c.if-n-le1-3.false) ∙ and_go _ _ (le-leb _ _ c.if-n-le1-2.true) ∙ and_go _ _ (le-leb _ _ c.if-n-le1.true) ∙ and_go _ _ (sym c.is_sound_status.ensures ∙ c.if-is_sound_status.true) ∙ and_go _ _ (eq-eqb _ _ c.if-n-eq-HEAD.true)
+returns-then-not-is_sound_status c = and_stop _ _ (sym c.is_sound_status.ensures ∙ c.if-not-is_sound_status.true) ∙ and_go _ _ (eq-eqb _ _ c.if-n-ne-HEAD.false)
 
-pub returns-then-n-le1 : goal.returns-then-n-le1
+pub returns-then-n-gt1 : goal.returns-then-n-gt1
 unfolding sound_head
-returns-then-n-le1 c = and_stop _ _ (lt-leb _ _ c.if-n-le1-2.false) ∙ and_go _ _ (le-leb _ _ c.if-n-le1.true) ∙ and_go _ _ (sym c.is_sound_status.ensures ∙ c.if-is_sound_status.true) ∙ and_go _ _ (eq-eqb _ _ c.if-n-eq-HEAD.true)
+returns-then-n-gt1 c = and_stop _ _ (lt-leb _ _ c.if-n-gt1.true) ∙ and_go _ _ (sym c.is_sound_status.ensures ∙ c.if-not-is_sound_status.false) ∙ and_go _ _ (eq-eqb _ _ c.if-n-ne-HEAD.false)
 
-pub returns-then-is_sound_status : goal.returns-then-is_sound_status
+pub returns-then-n-gt1-2 : goal.returns-then-n-gt1-2
 unfolding sound_head
-returns-then-is_sound_status c = and_stop _ _ (lt-leb _ _ c.if-n-le1.false) ∙ and_go _ _ (sym c.is_sound_status.ensures ∙ c.if-is_sound_status.true) ∙ and_go _ _ (eq-eqb _ _ c.if-n-eq-HEAD.true)
+returns-then-n-gt1-2 c = and_stop _ _ (lt-leb _ _ c.if-n-gt1-2.true) ∙ and_go _ _ (le-leb _ _ c.if-n-gt1.false) ∙ and_go _ _ (sym c.is_sound_status.ensures ∙ c.if-not-is_sound_status.false) ∙ and_go _ _ (eq-eqb _ _ c.if-n-ne-HEAD.false)
 
-pub returns-then-n-eq-HEAD : goal.returns-then-n-eq-HEAD
+pub returns-then-n-gt1-3 : goal.returns-then-n-gt1-3
 unfolding sound_head
-returns-then-n-eq-HEAD c = and_stop _ _ (sym c.is_sound_status.ensures ∙ c.if-is_sound_status.false) ∙ and_go _ _ (eq-eqb _ _ c.if-n-eq-HEAD.true)
+returns-then-n-gt1-3 c = and_stop _ _ (lt-leb _ _ c.if-n-gt1-3.true) ∙ and_go _ _ (le-leb _ _ c.if-n-gt1-2.false) ∙ and_go _ _ (le-leb _ _ c.if-n-gt1.false) ∙ and_go _ _ (sym c.is_sound_status.ensures ∙ c.if-not-is_sound_status.false) ∙ and_go _ _ (eq-eqb _ _ c.if-n-ne-HEAD.false)
 
 pub returns : goal.returns
 unfolding sound_head
-returns c = and_stop _ _ (ne_eqb _ _ c.if-n-eq-HEAD.false)
+returns c = and_go _ _ (le-leb _ _ c.if-n-gt1-3.false) ∙ and_go _ _ (le-leb _ _ c.if-n-gt1-2.false) ∙ and_go _ _ (le-leb _ _ c.if-n-gt1.false) ∙ and_go _ _ (sym c.is_sound_status.ensures ∙ c.if-not-is_sound_status.false) ∙ and_go _ _ (eq-eqb _ _ c.if-n-ne-HEAD.false)

@@ -10,17 +10,20 @@ pub returns-then-from-eq0 : goal.returns-then-from-eq0
 unfolding sound_status
 returns-then-from-eq0 c = and_go _ _ (eq-eqb _ _ c.if-from-eq0.true) ∙ sym (if_true _ _ (eq-eqb _ _ c.if-kind-eq0.true))
 
-pub returns-then-kind-eq0 : goal.returns-then-kind-eq0
+pub returns-else-from-eq0 : goal.returns-else-from-eq0
 unfolding sound_status
-returns-then-kind-eq0 c = and_stop _ _ (ne_eqb _ _ c.if-from-eq0.false) ∙ sym (if_true _ _ (eq-eqb _ _ c.if-kind-eq0.true))
+returns-else-from-eq0 c =
+    ne_eqb _ _ c.if-from-eq0.false ∙ and_stop _ _ (ne_eqb _ _ c.if-from-eq0.false) ∙ sym (if_true _ _ (eq-eqb _ _ c.if-kind-eq0.true))
 
 pub returns-then-from-lt4294967296 : goal.returns-then-from-lt4294967296
 unfolding sound_status
 returns-then-from-lt4294967296 c = and_go _ _ (lt-ltb _ _ c.if-from-lt4294967296.true) ∙ and_go _ _ (le-leb _ _ c.if-kind-le2.true) ∙ sym (if_false _ _ (ne_eqb _ _ c.if-kind-eq0.false))
 
-pub returns-then-kind-le2 : goal.returns-then-kind-le2
+pub returns-else-from-lt4294967296 : goal.returns-else-from-lt4294967296
 unfolding sound_status
-returns-then-kind-le2 c = and_stop _ _ (le-ltb _ _ c.if-from-lt4294967296.false) ∙ and_go _ _ (le-leb _ _ c.if-kind-le2.true) ∙ sym (if_false _ _ (ne_eqb _ _ c.if-kind-eq0.false))
+returns-else-from-lt4294967296 c =
+    le-ltb _ _ c.if-from-lt4294967296.false ∙ and_stop _ _ (le-ltb _ _ c.if-from-lt4294967296.false) ∙ and_go _ _ (le-leb _ _ c.if-kind-le2.true) ∙
+    sym (if_false _ _ (ne_eqb _ _ c.if-kind-eq0.false))
 
 pub returns : goal.returns
 unfolding sound_status

@@ -10,15 +10,15 @@ pub loop-i-preserved : goal.loop-i-preserved
 loop-i-preserved c =
     let a = c.args in
     let h : c.loop-i.i < a.n = omega (arith, c.loop-i-test.true) in
-    let e = sym c.good_field.ensures ∙ c.if-good_field.true in
+    let e = sym c.good_field.ensures ∙ c.if-not-good_field.false in
     let g = c.loop-i.invariant ∙ good_next a.count a.mark a.t.now a.n c.loop-i.i h in
     g ∙ sym (and_go _ _ e)
 
-pub returns-else-good_field : goal.returns-else-good_field
-returns-else-good_field c =
+pub returns-then-not-good_field : goal.returns-then-not-good_field
+returns-then-not-good_field c =
     let a = c.args in
     let h : c.loop-i.i < a.n = omega (arith, c.loop-i-test.true) in
-    let e = sym c.good_field.ensures ∙ c.if-good_field.false in
+    let e = sym c.good_field.ensures ∙ c.if-not-good_field.true in
     let g = c.loop-i.invariant ∙ good_next a.count a.mark a.t.now a.n c.loop-i.i h in
     sym (g ∙ sym (and_stop _ _ e))
 

@@ -7,6 +7,3 @@ use Rattle.lent.proofs.tables.good_fields.Given as goal
 
 abbrev pub invariant-loop-i : goal.invariant-loop-i
 invariant-loop-i l = (good_fields l.count l.mark (fields_from l.t 0 l.n) ≡ good_fields l.count l.mark (fields_from l.t l.i (l.n - l.i)))
-
-abbrev pub decreases-loop-i : goal.decreases-loop-i
-decreases-loop-i l = l.n - l.i
