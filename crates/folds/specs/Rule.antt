@@ -1,4 +1,4 @@
--- What a line does: rules 3 and 4 of document 01. Assumes nothing.
+-- What a line does: the status, a fold or a field. Rules 3 and 4 of a reading. Assumes nothing.
 use Rattle.leaves.specs.declared.refusals.Refusal.{Refusal}
 use Rattle.std.specs.Prelude.{Bool, false, ◌||◌, List, [], ◌∷◌, ◌++◌, ℕ, ◌+◌, ◌-◌, eqb, ltb, leb, length, take, drop, Err, Ok, Result}
 use Rattle.leaves.specs.Choice.{when◌then◌else◌}
