@@ -44,7 +44,7 @@ pub fn remove<'a>(m: HeaderMap, block: &'a [u8], store: &'a [u8], key: &[u8]) ->
     match maps::check_done(m, block, store) {
         Ok(()) => {
             let kept = tables::compact(m.table, 0, m.fields, block, store, key);
-            let table = kept.table;
+            let table = kept.table; // an array field goes into a literal by a variable alone
             let map = HeaderMap {
                 table,
                 fields: kept.n,
@@ -127,7 +127,7 @@ fn put_at<'a>(
     match plan_put(at, m.mark, m.room, key, value) {
         Ok(field) => {
             let kept = tables::put(m.table, m.fields, at, field, block, store, key);
-            let table = kept.table;
+            let table = kept.table; // an array field goes into a literal by a variable alone
             let mark = write_both(store, m.mark, key, value);
             let filled = HeaderMap {
                 table,
