@@ -18,7 +18,7 @@ pub returns-then-is_sound : goal.returns-then-is_sound
 unfolding set_gives
 returns-then-is_sound c =
     gave_sound _ _ _ _ _ _ _ _ _ _ _ _ _ (sym c.is_sound.ensures ∙ c.if-is_sound.true)
-    (changed edit_answer no_numbers edit_map _ _ _ _ _ _ _ _ (rw c.head_at-h.ensures at c.set-edited.ensures) c.edited.ensures refl c.put_head.ensures (c.set-edited.auto.t ∙ (sound_parts _ _ (sym c.is_sound.ensures ∙ c.if-is_sound.true)).1))
+    (changed edit_answer no_numbers edit_map _ _ _ _ _ _ _ _ (rw c.head_at-h.ensures at c.set-edited.ensures) c.done.ensures refl c.put_head.ensures (c.set-edited.auto.t ∙ (sound_parts _ _ (sym c.is_sound.ensures ∙ c.if-is_sound.true)).1))
 
 pub returns : goal.returns
 unfolding set_gives

@@ -18,7 +18,7 @@ pub returns-then-is_sound : goal.returns-then-is_sound
 unfolding clear_gives
 returns-then-is_sound c =
     gave_sound _ _ _ _ _ _ _ _ _ _ _ _ _ (sym c.is_sound.ensures ∙ c.if-is_sound.true)
-    (changed made_answer no_numbers made_map _ _ _ _ _ _ _ _ (rw c.head_at-h.ensures at c.clear-made.ensures) c.checked.ensures refl c.put_head.ensures (sound_parts _ _ (sym c.is_sound.ensures ∙ c.if-is_sound.true)).1)
+    (changed made_answer no_numbers made_map _ _ _ _ _ _ _ _ (rw c.head_at-h.ensures at c.clear-made.ensures) c.done.ensures refl c.put_head.ensures (sound_parts _ _ (sym c.is_sound.ensures ∙ c.if-is_sound.true)).1)
 
 pub returns : goal.returns
 unfolding clear_gives

@@ -11,7 +11,7 @@ pub returns-then-is_sound : goal.returns-then-is_sound
 returns-then-is_sound c =
     let a = c.args in
     let w = sym c.is_sound.ensures ∙ c.if-is_sound.true in
-    two_both a.head.now a.table.now a.block.now a.store.now _ _ _ _ (sym c.in-Ok.is ∙ c.«open».ensures) w (equal_live a.head.now a.table.now a.block.now a.store.now _ c.live_at-one.ensures a.head2.now a.table2.now a.block2.now a.store2.now _ c.live_at-two.ensures _ _ c.compare-e.ensures c.compared.ensures)
+    two_both a.head.now a.table.now a.block.now a.store.now _ _ _ _ (sym c.in-Ok.is ∙ c.«open».ensures) w (equal_live a.head.now a.table.now a.block.now a.store.now _ c.live_at-one.ensures a.head2.now a.table2.now a.block2.now a.store2.now _ c.live_at-two.ensures _ _ c.compare-e.ensures c.told.ensures)
 
 pub returns-else-is_sound : goal.returns-else-is_sound
 returns-else-is_sound c = two_second _ _ _ _ _ _ _ (sym c.in-Ok.is ∙ c.«open».ensures) (sym c.is_sound.ensures ∙ c.if-is_sound.false)

@@ -18,7 +18,7 @@ pub returns-then-is_sound : goal.returns-then-is_sound
 returns-then-is_sound c =
     let a = c.args in
     let w = sym c.is_sound.ensures ∙ c.if-is_sound.true in
-    told_head a.head.now a.table.now a.block.now a.store.now _ w c.head_at-h.ensures code_of code_number coding _ a.code.now _ _ c.status_code-c.ensures c.coded.ensures c.put_code.ensures
+    told_head a.head.now a.table.now a.block.now a.store.now _ w c.head_at-h.ensures code_of code_number coding _ a.code.now _ _ c.status_code-c.ensures c.found.ensures c.put_code.ensures
 
 pub returns : goal.returns
 returns c = told_damaged _ _ _ (sym c.is_sound.ensures ∙ c.if-is_sound.false)

@@ -16,7 +16,7 @@ pub returns-then-is_sound : goal.returns-then-is_sound
 returns-then-is_sound c =
     let a = c.args in
     let w = sym c.is_sound.ensures ∙ c.if-is_sound.true in
-    put_head a.head.now a.table.now a.block.now a.store.now _ w c.head_at-h.ensures rebuilding _ a.out.now _ a.count.now _ _ c.rebuild-w.ensures c.wrote.ensures c.put_count.ensures
+    put_head a.head.now a.table.now a.block.now a.store.now _ w c.head_at-h.ensures rebuilding _ a.out.now _ a.count.now _ _ c.rebuild-w.ensures c.done.ensures c.put_count.ensures
 
 pub returns : goal.returns
 returns c = put_damaged _ _ _ _ (sym c.is_sound.ensures ∙ c.if-is_sound.false)
