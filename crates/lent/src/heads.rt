@@ -20,7 +20,7 @@ fn is_sound_status(kind: u64, from: u64, to: u64) -> bool
     false
 }
 
-// Whether numbers are a head's.
+// Whether numbers are a head's. One test after the other: a chain of `&&` joins them to values that the prover has no name for.
 pub fn is_sound(n: &[u64]) -> bool
     ensures { result ≡ sound_head n.now }
 {

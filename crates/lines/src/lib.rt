@@ -80,7 +80,8 @@ fn next_octet(s: &[u8], from: usize, wanted: u8) -> usize
     s.len()
 }
 
-// Passes over groups of 64 octets without the wanted one: to the first that has it, or to fewer than 64 octets.
+// Passes over groups of 64 octets without the wanted one: to the first that has it, or to fewer than 64 octets. A `step_by` would not tell
+// where it ended.
 fn skip_64(s: &[u8], from: usize, wanted: u8) -> usize
     requires { from ≤ length s.now }
     ensures { Skipped wanted s.now from 64 result }
@@ -150,7 +151,7 @@ fn cr_at(s: &[u8], cr: bool, j: usize) -> bool
     if j == 0 { cr } else { is_cr(s[j - 1]) }
 }
 
-// The place of the octet that ends the line, or the length.
+// The place of the octet that ends the line, or the length. From LF to LF: no count, so no `for`.
 fn line_end(s: &[u8], cr: bool, quirks: bool) -> usize
     ensures { result ≡ line_end quirks cr s.now }
 {
@@ -226,7 +227,7 @@ fn copy_middle(out: &mut [u8], text: &[u8])
     copy_sixteen(out, text, n - 16);
 }
 
-// The same for a text of 16 octets or more; the last group may overlap the one before.
+// The same for a text of 16 octets or more; the last group may overlap the one before. A `step_by` would not tell how far the groups reach.
 fn copy_long(out: &mut [u8], text: &[u8])
     requires { (16 ≤ length text.now) × (length text.now ≤ length out.old) }
     ensures { out.new ≡ pasted out.old 0 text.now }

@@ -52,6 +52,7 @@ pub fn find<'a>(
 ) -> Result<Option<usize>, Refusal>
     ensures { result ≡ finding m block.now store.now name.now from }
 {
+    // A `map` with a closure was tried, and its clause was not proved.
     match sight(m, block, store, name, from)? {
         Some((i, _)) => Ok(Some(i)),
         None => Ok(None),

@@ -1,4 +1,4 @@
-// What the calls answer by number, and how it is printed.
+// What the calls answer by number, and how it is printed. The numbers are the C interface's, and stand here alone.
 use crate::map::Loan;
 use std::fmt;
 

@@ -98,6 +98,7 @@ impl<'a> Cursor<'a> {
         self.take(n)
     }
 
+    // Digit by digit: `parse` would not tell in which column the number grows too large.
     fn number(&mut self) -> Result<usize, Nonsense> {
         let rest = self.rest();
         if !rest.first().is_some_and(u8::is_ascii_digit) {

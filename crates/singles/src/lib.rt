@@ -6,7 +6,8 @@ ghost use Rattle.singles.specs.Single.{single};
 
 use maps::HeaderMap;
 
-// The value of the only field of a name: without one, with more, or refused, no octets.
+// The value of the only field of a name: without one, with more, or refused, no octets. An arm for each: behind a joined one the prover has
+// lost which it was.
 pub fn only_value<'a>(m: HeaderMap, block: &'a [u8], store: &'a [u8], name: &[u8]) -> &'a [u8]
     ensures { result.now ≡ single m block.now store.now name.now }
 {
