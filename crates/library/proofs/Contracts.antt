@@ -41,6 +41,8 @@ pub maps : Maps
 maps =
     record {
       new = λ κ a r e h. h;
+      head = λ κ a r e h. h;
+      under_call = λ κ a r e h. h;
       wide = λ κ a r e h. h;
       in_block_call = λ κ a r e h. h;
       in_store_call = λ κ a r e h. h;
@@ -231,6 +233,8 @@ asks =
       maps =
           record {
             new = λ κ a. tt;
+            head = λ κ a. tt;
+            under_call = λ κ a. tt;
             wide = λ κ a. tt;
             in_block_call = λ κ a h. h;
             in_store_call = λ κ a h. h;

@@ -43,6 +43,8 @@ pub record LeavesAsk : Type 0 where
 -- maps and rule 4
 pub record MapsAsk : Type 0 where
   pub new : Free Rattle.maps.proofs.HeaderMap.new.Reads.Asked
+  pub head : Free Rattle.maps.proofs.HeaderMap.head.Reads.Asked
+  pub under_call : Free Rattle.maps.proofs.HeaderMap.under.Reads.Asked
   pub wide : Free Rattle.maps.proofs.wide.Reads.Asked
   pub in_block_call : Asks Rattle.maps.proofs.in_block.Reads.Asked (λ κ a. ((first a) ≤ 65536) × ((second a) ≤ 65536))
   pub in_store_call : Asks Rattle.maps.proofs.in_store.Reads.Asked (λ κ a. ((first a) ≤ 65536) × ((second a) ≤ 65536))

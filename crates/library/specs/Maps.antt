@@ -1,6 +1,7 @@
 -- Maps and rule 4. Each public function with what its contract hands to a caller. `proofs/Contracts` inhabits it. Assumes nothing.
 use Rattle.std.specs.Prelude.{◌≡◌, take}
 use Rattle.maps.specs.Good.{checked, checked_done, good_counts, good_field, good_rooms, good_status, is_done, is_reading}
+use Rattle.maps.specs.Heads.{head_of, under}
 use Rattle.maps.specs.Maps.{unmade}
 use Rattle.maps.specs.Places.{Parted, in_block, in_store}
 use Rattle.folds.specs.Asks.{Changes}
@@ -11,6 +12,10 @@ pub record Maps : Type 0 where
   -- maps
   -- new()
   pub new : Says Rattle.maps.proofs.HeaderMap.new.Reads.Learnt (λ κ a r e. r ≡ unmade)
+  -- head(self)
+  pub head : Says Rattle.maps.proofs.HeaderMap.head.Reads.Learnt (λ κ a r e. r ≡ head_of (first a))
+  -- under(table, h)
+  pub under_call : Says Rattle.maps.proofs.HeaderMap.under.Reads.Learnt (λ κ a r e. r ≡ under (first a) (second a))
   -- wide(x)
   pub wide : Says Rattle.maps.proofs.wide.Reads.Learnt (λ κ a r e. r ≡ (first a))
   -- in_block(from, to)
