@@ -13,7 +13,7 @@ use leaves::refusals::Refusal;
 use leaves::trims;
 use maps::{Field, Place};
 
-// What a line does: nothing, the status, a field in a slot with the mark after it, or a refusal.
+// What a line does: nothing, the status, or a field in a slot with the mark after it.
 #[derive(Clone, Copy)]
 pub enum Change {
     Nothing,

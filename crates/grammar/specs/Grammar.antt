@@ -1,4 +1,4 @@
--- The grammar of a header, as document 01 states it. Assumes nothing.
+-- The grammar of a header. Assumes nothing.
 use Rattle.std.specs.Prelude.{◌≡◌, Bool, true, false, ◌&&◌, ◌||◌, List, [], ◌∷◌, ◌++◌, ℕ, eqb}
 use Rattle.leaves.specs.Class.{token, text}
 use Rattle.leaves.specs.Octets.{octets, all, same_list}

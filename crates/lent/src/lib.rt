@@ -23,10 +23,16 @@ fn is_good(h: Head, t: &[u32]) -> bool
     requires { length t.now ≡ 1024 }
     ensures { result ≡ good (map_in t.now h) }
 {
-    maps::good_rooms(h.limit, h.room)
-        && maps::good_counts(h.limit, h.room, h.count, h.mark, h.line, h.fields)
-        && maps::good_status(h.status, h.count, h.mark)
-        && tables::good_fields(t, h.fields, h.count, h.mark)
+    if !maps::good_rooms(h.limit, h.room) {
+        return false;
+    }
+    if !maps::good_counts(h.limit, h.room, h.count, h.mark, h.line, h.fields) {
+        return false;
+    }
+    if !maps::good_status(h.status, h.count, h.mark) {
+        return false;
+    }
+    tables::good_fields(t, h.fields, h.count, h.mark)
 }
 
 // What every call but begin checks first: 3, 2, 7. Ready says whether the map's phase is the one that the call wants.
@@ -86,21 +92,7 @@ pub fn live_map(h: Head, t: &[u32]) -> HeaderMap
     requires { length t.now ≡ 1024 }
     ensures { result ≡ live_in t.now h }
 {
-    let table = live_table(t, few(h.fields));
-    HeaderMap {
-        table,
-        limit: h.limit,
-        room: h.room,
-        count: h.count,
-        line: h.line,
-        mark: h.mark,
-        fields: h.fields,
-        status: h.status,
-        awaits: h.awaits,
-        quirks: h.quirks,
-        edited: h.edited,
-        phase: h.phase,
-    }
+    HeaderMap::under(live_table(t, few(h.fields)), h)
 }
 
 // Whether numbers are a map's.

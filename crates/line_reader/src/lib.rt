@@ -12,7 +12,7 @@ use leaves::refusals::Refusal;
 use lines::Took;
 use maps::{Field, Head};
 
-// What a piece, or the end of input, did: more is wanted, a blank line or the end of input closed the reading, or a refusal.
+// What a piece, or the end of input, did: more is wanted, or a blank line or the end of input closed the reading.
 #[derive(Clone, Copy)]
 pub enum Answer {
     More,

@@ -1,4 +1,4 @@
-// One pass over the lines of a block, which keeps nothing but the number of fields left.
+// One pass over the lines of a block, which keeps nothing but the place and the number of fields passed.
 ghost use Rattle.std.specs.Prelude.{◌≡◌, ◌∷◌, [], ◌≤◌, length, take, drop};
 ghost use Rattle.leaves.specs.Octets.{same_list};
 ghost use Rattle.writes.specs.Written.{crlf};

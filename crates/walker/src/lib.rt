@@ -126,7 +126,7 @@ fn kept_map(m: HeaderMap, kept: Kept) -> HeaderMap
     HeaderMap::under(m.table, h)
 }
 
-// What a call gives that was made on the trail: the walker is built here alone, since a map that goes through a function is copied there.
+// What a call gives that was made on the trail: the walker is built here for each of them, since a map that goes through a function is copied there.
 fn with_map(m: HeaderMap, r: Trailed) -> Walked
     ensures { result ≡ with_map m r }
 {

@@ -6,20 +6,9 @@ use std::fmt;
 
 // The refusal of a number; outside 1 to 13, which no call answers, the last.
 fn refusal(number: u32) -> Refusal {
-    match number {
-        1 => Refusal::BadRooms,
-        2 => Refusal::ShortLoan,
-        3 => Refusal::BadMap,
-        4 => Refusal::BlockFull,
-        5 => Refusal::FieldsFull,
-        6 => Refusal::StoreFull,
-        7 => Refusal::WrongPhase,
-        8 => Refusal::ShortOutput,
-        9 => Refusal::BadVersion,
-        10 => Refusal::BadLength,
-        11 => Refusal::BadTrailer,
-        12 => Refusal::CutShort,
-        _ => Refusal::TooFar,
+    match u8::try_from(number) {
+        Ok(n) => Refusal::try_from(n).unwrap_or(Refusal::TooFar),
+        Err(_) => Refusal::TooFar,
     }
 }
 
@@ -59,16 +48,15 @@ pub enum Read {
     More,
     Blank,
     Input,
-    Refused(Refusal),
 }
 
-impl From<u32> for Read {
-    fn from(number: u32) -> Read {
+impl Read {
+    pub fn of(number: u32) -> Result<Read, Refusal> {
         match number {
-            64 => Read::More,
-            65 => Read::Blank,
-            66 => Read::Input,
-            _ => Read::Refused(refusal(number)),
+            64 => Ok(Read::More),
+            65 => Ok(Read::Blank),
+            66 => Ok(Read::Input),
+            _ => Err(refusal(number)),
         }
     }
 }
@@ -80,27 +68,23 @@ pub enum Step {
     Record,
     Body,
     End,
-    Refused(Refusal),
 }
 
-impl From<u32> for Step {
-    fn from(number: u32) -> Step {
+impl Step {
+    pub fn of(number: u32) -> Result<Step, Refusal> {
         match number {
-            64 => Step::More,
-            73 => Step::Record,
-            74 => Step::Body,
-            75 => Step::End,
-            _ => Step::Refused(refusal(number)),
+            64 => Ok(Step::More),
+            73 => Ok(Step::Record),
+            74 => Ok(Step::Body),
+            75 => Ok(Step::End),
+            _ => Err(refusal(number)),
         }
     }
 }
 
+// Whether a test was passed.
 #[derive(Clone, Copy)]
-pub enum Test {
-    Yes,
-    No,
-    Refused(Refusal),
-}
+pub struct Test(pub Result<bool, Refusal>);
 
 impl Test {
     // Whether a block is as `tidy` writes it.
@@ -116,20 +100,20 @@ impl Test {
 
 impl From<u32> for Test {
     fn from(number: u32) -> Test {
-        match number {
-            69 => Test::Yes,
-            70 => Test::No,
-            _ => Test::Refused(refusal(number)),
-        }
+        Test(match number {
+            69 => Ok(true),
+            70 => Ok(false),
+            _ => Err(refusal(number)),
+        })
     }
 }
 
 impl fmt::Display for Test {
     fn fmt<W: fmt::Write>(&self, f: &mut fmt::Formatter<W>) -> fmt::Result {
-        f.write_str(match self {
-            Test::Yes => "yes",
-            Test::No => "no",
-            Test::Refused(refusal) => meaning(*refusal),
+        f.write_str(match self.0 {
+            Ok(true) => "yes",
+            Ok(false) => "no",
+            Err(refusal) => meaning(refusal),
         })
     }
 }

@@ -7,6 +7,7 @@ use crate::out::{Page, Stream};
 use crate::outcomes::{Failure, Outcome};
 use crate::texts::Lines;
 use crate::{out, texts};
+use leaves::refusals::Refusal;
 
 // How a block's first line is taken: by what it begins with, as a status or as a field.
 #[derive(Clone, Copy)]
@@ -38,7 +39,7 @@ impl Reading {
 #[derive(Drop)]
 struct Block {
     header: Header,
-    end: Read,
+    end: Result<Read, Refusal>,
     taken: u64,
     status: bool,
     quirks: bool,
@@ -68,7 +69,7 @@ impl Block {
         header.begin(status, quirks);
         Block {
             header,
-            end: Read::More,
+            end: Ok(Read::More),
             taken: 0,
             status,
             quirks,
@@ -83,7 +84,7 @@ impl Block {
         };
         self.end = end;
         self.taken = self.taken.wrapping_add(taken);
-        !matches!(end, Read::More)
+        !matches!(end, Ok(Read::More))
     }
 
     fn octets(&self) -> &[u8] {
@@ -113,7 +114,7 @@ impl Block {
     fn remark(&self, named: &Named) {
         if let Some(hint) = self.hint() {
             named.remark(hint);
-        } else if matches!(self.end, Read::Blank) {
+        } else if matches!(self.end, Ok(Read::Blank)) {
             let n = self.idle_lines();
             if n > 0 {
                 named.remark(Remark::Idle(n));
@@ -124,7 +125,7 @@ impl Block {
     // Good is a block that its blank line ended.
     fn outcome(&self) -> Outcome {
         match self.end {
-            Read::Blank => Ok(()),
+            Ok(Read::Blank) => Ok(()),
             _ => Err(Failure::Bad),
         }
     }
@@ -133,8 +134,10 @@ impl Block {
     fn say(&self, page: &mut Page) {
         let taken = self.taken;
         match self.end {
-            Read::Blank => page.say(format_args!("ended by a blank line; octets taken: {taken}\n")),
-            Read::Refused(refusal) => {
+            Ok(Read::Blank) => page.say(format_args!(
+                "ended by a blank line; octets taken: {taken}\n"
+            )),
+            Err(refusal) => {
                 let stop = Stop(refusal);
                 page.say(format_args!("stopped by number {stop}; octets taken: {taken}\n"));
                 return;
@@ -153,14 +156,14 @@ impl Block {
     // Whether it was read, and is clean; what is amiss is said.
     fn can_be_rebuilt(&self, named: &Named) -> bool {
         match self.end {
-            Read::Blank => {}
-            Read::Refused(refusal) => {
+            Ok(Read::Blank) => {}
+            Err(refusal) => {
                 named.remark(Remark::Refused(refusal));
                 return false;
             }
             _ => named.remark(Remark::CutOff),
         }
-        if matches!(self.header.clean(), Test::Yes) {
+        if matches!(self.header.clean(), Test(Ok(true))) {
             return true;
         }
         named.remark(Remark::Unclean);
@@ -170,8 +173,8 @@ impl Block {
     // Says what is amiss with a block that is to be resumed: a cut-off one's last field may be the beginning of another.
     fn say_amiss(&self, named: &Named) {
         let amiss = match self.end {
-            Read::Blank => return,
-            Read::Refused(refusal) => Remark::Refused(refusal),
+            Ok(Read::Blank) => return,
+            Err(refusal) => Remark::Refused(refusal),
             _ => Remark::CutOff,
         };
         if let Some(hint) = self.hint() {
@@ -221,8 +224,8 @@ fn load_answer(named: &Named) -> Result<Block, Failure> {
 
 fn verdict(first: &Block, second: &Block) -> Verdict {
     match (first.end, second.end) {
-        (Read::Blank, Read::Blank) => first.header.resumes(&second.header),
-        (Read::Refused(_), _) | (_, Read::Refused(_)) => Verdict::NotRead,
+        (Ok(Read::Blank), Ok(Read::Blank)) => first.header.resumes(&second.header),
+        (Err(_), _) | (_, Err(_)) => Verdict::NotRead,
         _ => Verdict::NotWhole,
     }
 }

@@ -2,6 +2,7 @@
 use crate::answers::{Read, Test, Verdict};
 use crate::out::Text;
 use leaves::names;
+use leaves::refusals::Refusal;
 use std::fmt;
 
 // The limit of a block, and the room of its store.
@@ -114,7 +115,7 @@ impl Header {
     }
 
     // Reads on, and answers how many octets were taken.
-    pub fn feed(&mut self, piece: &[u8]) -> (Read, u64) {
+    pub fn feed(&mut self, piece: &[u8]) -> (Result<Read, Refusal>, u64) {
         let mut taken = 0;
         let answer = abi::reading::bisquecrow_feed(
             &mut self.head,
@@ -124,11 +125,11 @@ impl Header {
             piece,
             &mut taken,
         );
-        (Read::from(answer), taken)
+        (Read::of(answer), taken)
     }
 
-    pub fn finish(&mut self) -> Read {
-        Read::from(abi::reading::bisquecrow_finish(
+    pub fn finish(&mut self) -> Result<Read, Refusal> {
+        Read::of(abi::reading::bisquecrow_finish(
             &mut self.head,
             &mut self.table,
             &self.block,

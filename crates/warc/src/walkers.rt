@@ -1,6 +1,7 @@
 // A walker over the records of a file, as the calls of `abi` are lent it: in numbers, as C sees them.
 use crate::answers::Step;
 use crate::headers::{Header, LIMIT};
+use leaves::refusals::Refusal;
 
 // The numbers of a walker's trail: where it stands, where the record begins that it is in, and at which stage it is.
 const POSITION: usize = 0;
@@ -82,7 +83,7 @@ impl Walker {
     }
 
     // Walks on, and answers how many octets were taken.
-    pub fn step(&mut self, piece: &[u8]) -> (Step, u64) {
+    pub fn step(&mut self, piece: &[u8]) -> (Result<Step, Refusal>, u64) {
         let mut taken = 0;
         let answer = abi::walking::bisquecrow_walk(
             &mut self.trail,
@@ -94,12 +95,12 @@ impl Walker {
             &mut taken,
             &mut self.record,
         );
-        (Step::from(answer), taken)
+        (Step::of(answer), taken)
     }
 
     // Tells the walker of the end: one that has stopped repeats its answer.
-    pub fn end(&mut self) -> Step {
-        Step::from(abi::walking::bisquecrow_end(
+    pub fn end(&mut self) -> Result<Step, Refusal> {
+        Step::of(abi::walking::bisquecrow_end(
             &mut self.trail,
             &mut self.header.head,
             &self.header.table,

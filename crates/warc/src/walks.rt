@@ -44,11 +44,11 @@ enum Ending {
 }
 
 // Of a walk to whose walker the end was told.
-impl From<Step> for Ending {
-    fn from(step: Step) -> Ending {
+impl From<Result<Step, Refusal>> for Ending {
+    fn from(step: Result<Step, Refusal>) -> Ending {
         match step {
-            Step::Refused(refusal) => Ending::Stopped(refusal),
-            _ => Ending::Whole,
+            Err(refusal) => Ending::Stopped(refusal),
+            Ok(_) => Ending::Whole,
         }
     }
 }
@@ -130,26 +130,30 @@ impl<'a> Walk<'a> {
     }
 
     // Does what is asked for with what the walker came to.
-    fn take(&mut self, step: Step, part: &[u8]) -> Result<Option<Ending>, Failure> {
+    fn take(
+        &mut self,
+        step: Result<Step, Refusal>,
+        part: &[u8],
+    ) -> Result<Option<Ending>, Failure> {
         match step {
-            Step::Record => {
+            Ok(Step::Record) => {
                 self.say_record();
                 if self.task == Task::Show {
                     return Ok(Some(Ending::Found));
                 }
             }
-            Step::Body if self.task == Task::Write => {
+            Ok(Step::Body) if self.task == Task::Write => {
                 Stream::Output.write(self.named.rt, part)?;
             }
             // The walker stands between records where one ended.
-            Step::More if self.walker.is_between_records() => {
+            Ok(Step::More) if self.walker.is_between_records() => {
                 self.good = self.good.wrapping_add(1);
                 if self.task == Task::Write {
                     return Ok(Some(Ending::Found));
                 }
             }
-            Step::Refused(refusal) => return Ok(Some(Ending::Stopped(refusal))),
-            Step::More | Step::Body | Step::End => {}
+            Err(refusal) => return Ok(Some(Ending::Stopped(refusal))),
+            Ok(_) => {}
         }
         Ok(None)
     }
