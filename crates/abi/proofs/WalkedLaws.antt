@@ -1,11 +1,11 @@
 -- What the walker's exported calls give, by what the calls below give. Assumes nothing.
+use Rattle.leaves.specs.Refusals.{number}
 use Rattle.leaves.specs.declared.refusals.Refusal.{Refusal}
-use Rattle.std.specs.Prelude.{Err, Ok, Result}
+use Rattle.std.specs.Prelude.{Err, Ok}
 use mathlib.Core.Path.{◌≡◌, refl, sym, ap, ◌∙◌}
 use mathlib.Core.Bool.{Bool, true, false, ◌&&◌}
 use mathlib.Core.List.{List, []}
 use Prim.Native.Nat.{ℕ}
-use native.Mathlib.Omega.{arith}
 use lib.ListN.{length}
 use Rattle.leaves.specs.Choice.{when◌then◌else◌}
 use Rattle.leaves.proofs.ChoiceLaws.{if_true, if_false, and_both, and_false}
@@ -22,7 +22,6 @@ use Rattle.walker.specs.declared.Walked.{Walked}
 use Rattle.lent.specs.Table.{map_in}
 use Rattle.lent.specs.Numbers.{head_numbers}
 use Rattle.trails.specs.Trail.{trail_numbers}
-use Rattle.trails.proofs.TrailLaws.{number_low}
 use Rattle.abi.specs.Calls.{Went, Goes, trail_in, walked_answer, walked_map, went_of, lost, started, started_out}
 use Rattle.abi.proofs.CallLaws.{changed}
 
@@ -35,51 +34,40 @@ went numbers g x r h v w n t b s i e f k j l =
       trail = j ∙ ap trail_in (sym f) ∙ ap (λ (y : Walked). trail_in y.walker) i.result;
     }
 
-goes : (x : Result Step Refusal) (old new : List ℕ) → start_answer x ≡ 0 → new ≡ started x old new
-goes (Ok More) old new h = refl
-goes (Ok (Record a b c d)) old new h = refl
-goes (Ok Body) old new h = refl
-goes (Ok End) old new h = refl
-goes (Err e) old new h = absurd (omega (arith, number_low e))
+-- a walker that starts, whatever its step
+goes : (v : Step) (old new : List ℕ) → new ≡ started (Ok v) old new
+goes More old new = refl
+goes (Record a b c d) old new = refl
+goes Body old new = refl
+goes End old new = refl
 
-stays : (x : Result Step Refusal) (old new : List ℕ) → (start_answer x ≡ 0 → ⊥) → old ≡ started x old new
-stays (Ok More) old new h = absurd (h refl)
-stays (Ok (Record a b c d)) old new h = absurd (h refl)
-stays (Ok Body) old new h = absurd (h refl)
-stays (Ok End) old new h = absurd (h refl)
-stays (Err e) old new h = refl
+answers_done : (v : Step) → 0 ≡ start_answer (Ok v)
+answers_done More = refl
+answers_done (Record a b c d) = refl
+answers_done Body = refl
+answers_done End = refl
 
--- start
 module _ (g : Given Walked) (x : Walked) (w n t b s : List ℕ) (i : Is g x b s) where
-  pub started_fine : (w' n' : List ℕ) → start_answer x.step ≡ 0 → n' ≡ head_numbers (headIn x.walker.map) → w' ≡ trail_in x.walker → Goes (started_out w n t g) 0 [] w' n' t b s
-  started_fine w' n' e k j =
+  pub started_fine : (v : Step) (w' n' : List ℕ) → x.step ≡ Ok v → n' ≡ head_numbers (headIn x.walker.map) → w' ≡ trail_in x.walker → Goes (started_out w n t g) 0 [] w' n' t b s
+  started_fine v w' n' f k j =
+      let e : g.result.step ≡ Ok v = ap (λ (y : Walked). y.step) (sym i.result) ∙ f in
       record {
         out =
             record {
-              answer = sym e ∙ ap (λ (y : Walked). start_answer y.step) i.result;
+              answer = rw e (answers_done v);
               numbers = refl;
-              head = k ∙ goes x.step n _ e ∙ ap (λ (y : Walked). started y.step n (head_numbers (headIn y.walker.map))) i.result;
+              head = rw e (k ∙ goes v n _ ∙ ap (λ (y : Walked). started (Ok v) n (head_numbers (headIn y.walker.map))) i.result);
               table = refl;
               block = i.block;
               store = i.store;
             };
-        trail = j ∙ goes x.step w _ e ∙ ap (λ (y : Walked). started y.step w (trail_in y.walker)) i.result;
+        trail = rw e (j ∙ goes v w _ ∙ ap (λ (y : Walked). started (Ok v) w (trail_in y.walker)) i.result);
       }
 
-  pub started_refused : (r : ℕ) → (start_answer x.step ≡ 0 → ⊥) → r ≡ start_answer x.step → Goes (started_out w n t g) r [] w n t b s
-  started_refused r f h =
-      record {
-        out =
-            record {
-              answer = h ∙ ap (λ (y : Walked). start_answer y.step) i.result;
-              numbers = refl;
-              head = stays x.step n (head_numbers (headIn x.walker.map)) f ∙ ap (λ (y : Walked). started y.step n (head_numbers (headIn y.walker.map))) i.result;
-              table = refl;
-              block = i.block;
-              store = i.store;
-            };
-        trail = stays x.step w (trail_in x.walker) f ∙ ap (λ (y : Walked). started y.step w (trail_in y.walker)) i.result;
-      }
+  pub started_refused : (e : Refusal) (r : ℕ) → x.step ≡ Err e → r ≡ number e → Goes (started_out w n t g) r [] w n t b s
+  started_refused e r f h =
+      let a : g.result.step ≡ Err e = ap (λ (y : Walked). y.step) (sym i.result) ∙ f in
+      record { out = record { answer = rw a h; numbers = refl; head = rw a; table = refl; block = i.block; store = i.store }; trail = rw a }
 
 module _ (o : Went) (z w n t b s : List ℕ) (c d : Bool) where
   pub goes_sound : (r : ℕ) (z' w' n' t' b' s' : List ℕ) → c ≡ true → d ≡ true → Goes o r z' w' n' t' b' s' → Goes (when c && d then o else lost z w n t b s) r z' w' n' t' b' s'

@@ -4,7 +4,7 @@ ghost use Rattle.leaves.specs.Answers.{done_or, yes_or, found_or};
 ghost use Rattle.leaves.specs.Refusals.{number};
 ghost use Rattle.reader.specs.Answers.{told as answer_of};
 ghost use Rattle.codes.specs.Answers.{kind_answer as kind_of};
-ghost use Rattle.walker.specs.Answers.{told as step_of, start_answer};
+ghost use Rattle.walker.specs.Answers.{told as step_of};
 ghost use Rattle.resume.specs.Answers.{told as verdictOf};
 
 use leaves::refusals;
@@ -96,19 +96,6 @@ pub fn walked(s: Result<Step, Refusal>) -> u32
         Ok(Step::Record(a, b, c, d)) => 73,
         Ok(Step::Body) => 74,
         Ok(Step::End) => 75,
-        Err(e) => refused(e),
-    }
-}
-
-// A walker's start answers 0 or a refusal.
-pub fn started(s: Result<Step, Refusal>) -> u32
-    ensures { result ≡ start_answer s }
-{
-    match s {
-        Ok(Step::More) => 0,
-        Ok(Step::Record(a, b, c, d)) => 0,
-        Ok(Step::Body) => 0,
-        Ok(Step::End) => 0,
         Err(e) => refused(e),
     }
 }

@@ -21,16 +21,12 @@ pub fn bisquecrow_begin(
     if lent::is_long(head, table) {
         let h = heads::unmade();
         let made = lent_reader::begin(h, limit, room, awaits, quirks, block, store);
-        let new = made.head;
-        let answer = made.answer;
-        match answer {
+        match made.answer {
             Ok(()) => {
-                heads::put_head(head, new);
+                heads::put_head(head, made.head);
                 return answers::DONE;
             }
-            Err(e) => {
-                return answers::refused(e);
-            }
+            Err(e) => return answers::refused(e),
         }
     }
     answers::DAMAGED

@@ -3,20 +3,7 @@ ghost use Rattle.std.specs.Prelude.{◌≡◌};
 ghost use Rattle.abi.specs.Calls.{Tells, code_number, length_number, kind_number, code_tells, length_tells, kind_tells, clean_tells, tidy_tells, grammar_tells, equal_tells, resume_tells};
 
 use crate::{answers, opening};
-use leaves::refusals::Refusal;
 use lent::heads;
-
-fn put_code(c: Result<Option<u16>, Refusal>, code: &mut u64)
-    ensures { code.new ≡ code_number c code.old }
-{
-    match c {
-        Ok(Some(n)) => {
-            *code = n as u64;
-        }
-        Ok(None) => {}
-        Err(e) => {}
-    }
-}
 
 // The status code.
 pub fn bisquecrow_status_code<'a>(
@@ -31,22 +18,12 @@ pub fn bisquecrow_status_code<'a>(
     if lent::is_sound(head, table) {
         let h = heads::head_at(head);
         let c = lent_codes::status_code(h, table, block, store);
-        put_code(c, code);
+        if let Ok(Some(n)) = c {
+            *code = u64::from(n);
+        }
         return answers::found(c);
     }
     answers::DAMAGED
-}
-
-fn put_length(l: Result<Option<u64>, Refusal>, length: &mut u64)
-    ensures { length.new ≡ length_number l length.old }
-{
-    match l {
-        Ok(Some(n)) => {
-            *length = n;
-        }
-        Ok(None) => {}
-        Err(e) => {}
-    }
 }
 
 // The content length of the first field of that name.
@@ -62,21 +39,12 @@ pub fn bisquecrow_content_length<'a>(
     if lent::is_sound(head, table) {
         let h = heads::head_at(head);
         let l = lent_codes::content_length(h, table, block, store);
-        put_length(l, length);
+        if let Ok(Some(n)) = l {
+            *length = n;
+        }
         return answers::found(l);
     }
     answers::DAMAGED
-}
-
-fn put_type(k: Result<u16, Refusal>, code: &mut u64)
-    ensures { code.new ≡ kind_number k code.old }
-{
-    match k {
-        Ok(n) => {
-            *code = n as u64;
-        }
-        Err(e) => {}
-    }
 }
 
 // The code of a record's type.
@@ -92,7 +60,9 @@ pub fn bisquecrow_record_type<'a>(
     if lent::is_sound(head, table) {
         let h = heads::head_at(head);
         let k = lent_codes::record_type(h, table, block, store);
-        put_type(k, code);
+        if let Ok(n) = k {
+            *code = u64::from(n);
+        }
         return answers::typed(k);
     }
     answers::DAMAGED

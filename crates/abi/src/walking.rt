@@ -23,16 +23,14 @@ pub fn bisquecrow_walker(
         if lent::is_long(head, table) {
             let h = heads::unmade();
             let walked = lent_walker::start(h, room, position, block, store);
-            let step = walked.step;
-            let answer = answers::started(step);
-            if answer == answers::DONE {
-                let new = walked.head;
-                let onward = walked.trail;
-                heads::put_head(head, new);
-                trails::put_trail(trail, onward);
-                return answers::DONE;
+            match walked.step {
+                Ok(_) => {
+                    heads::put_head(head, walked.head);
+                    trails::put_trail(trail, walked.trail);
+                    return answers::DONE;
+                }
+                Err(e) => return answers::refused(e),
             }
-            return answer;
         }
         return answers::DAMAGED;
     }
@@ -42,17 +40,8 @@ pub fn bisquecrow_walker(
 fn put_record(step: Result<Step, Refusal>, record: &mut [u64; 4])
     ensures { «record».new ≡ record_numbers step «record».old }
 {
-    match step {
-        Ok(Step::More) => {}
-        Ok(Step::Record(start, offset, length, code)) => {
-            record[0] = start;
-            record[1] = offset;
-            record[2] = length;
-            record[3] = code as u64;
-        }
-        Ok(Step::Body) => {}
-        Ok(Step::End) => {}
-        Err(e) => {}
+    if let Ok(Step::Record(start, offset, length, code)) = step {
+        *record = [start, offset, length, u64::from(code)];
     }
 }
 
@@ -74,14 +63,11 @@ pub fn bisquecrow_walk(
             let w = trails::trail_at(trail);
             let h = heads::head_at(head);
             let walked = lent_walker::walk(w, h, table, block, store, piece);
-            let new = walked.head;
-            let onward = walked.trail;
-            let step = walked.step;
-            heads::put_head(head, new);
-            trails::put_trail(trail, onward);
+            heads::put_head(head, walked.head);
+            trails::put_trail(trail, walked.trail);
             *taken = walked.taken as u64;
-            put_record(step, record);
-            return answers::walked(step);
+            put_record(walked.step, record);
+            return answers::walked(walked.step);
         }
         *taken = 0;
         return answers::DAMAGED;
@@ -105,12 +91,9 @@ pub fn bisquecrow_end(
             let w = trails::trail_at(trail);
             let h = heads::head_at(head);
             let walked = lent_walker::end(w, h, table, block, store);
-            let new = walked.head;
-            let onward = walked.trail;
-            let step = walked.step;
-            heads::put_head(head, new);
-            trails::put_trail(trail, onward);
-            return answers::walked(step);
+            heads::put_head(head, walked.head);
+            trails::put_trail(trail, walked.trail);
+            return answers::walked(walked.step);
         }
         return answers::DAMAGED;
     }

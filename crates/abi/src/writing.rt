@@ -3,19 +3,7 @@ ghost use Rattle.std.specs.Prelude.{◌≡◌};
 ghost use Rattle.abi.specs.Calls.{Puts, count_number, write_puts, rebuild_puts};
 
 use crate::answers;
-use leaves::refusals::Refusal;
 use lent::heads;
-
-fn put_count(w: Result<usize, Refusal>, count: &mut u64)
-    ensures { count.new ≡ count_number w count.old }
-{
-    match w {
-        Ok(n) => {
-            *count = n as u64;
-        }
-        Err(e) => {}
-    }
-}
 
 // The block as it was read, or the map rebuilt.
 pub fn bisquecrow_write<'a>(
@@ -31,7 +19,9 @@ pub fn bisquecrow_write<'a>(
     if lent::is_sound(head, table) {
         let h = heads::head_at(head);
         let w = lent_writes::write(h, table, block, store, out);
-        put_count(w, count);
+        if let Ok(n) = w {
+            *count = n as u64;
+        }
         return answers::done(w);
     }
     answers::DAMAGED
@@ -51,7 +41,9 @@ pub fn bisquecrow_rebuild<'a>(
     if lent::is_sound(head, table) {
         let h = heads::head_at(head);
         let w = lent_writes::rebuild(h, table, block, store, out);
-        put_count(w, count);
+        if let Ok(n) = w {
+            *count = n as u64;
+        }
         return answers::done(w);
     }
     answers::DAMAGED

@@ -6,6 +6,7 @@ use Rattle.abi.specs.Calls.{length_number}
 use Rattle.codes.specs.Answers.{length_answer as length_of}
 use Rattle.codes.specs.Codes.{length_of as lengthIn}
 use mathlib.Core.Path.{sym, ◌∙◌}
+use Rattle.std.proofs.Common.{rules, ◌≡◌}
 use Rattle.abi.proofs.telling.bisquecrow_content_length.Goals as goal
 
 pub head_at-h-requires : goal.head_at-h-requires
@@ -18,7 +19,8 @@ pub returns-then-is_sound : goal.returns-then-is_sound
 returns-then-is_sound c =
     let a = c.args in
     let w = sym c.is_sound.ensures ∙ c.if-is_sound.true in
-    told_head a.head.now a.table.now a.block.now a.store.now _ w c.head_at-h.ensures length_of length_number lengthIn _ a.length.now _ _ c.content_length-l.ensures c.found.ensures c.put_length.ensures
+    let q : c.match-l.length ≡ length_number c.content_length-l.result c.args.length.now = search rules in
+    told_head a.head.now a.table.now a.block.now a.store.now _ w c.head_at-h.ensures length_of length_number lengthIn _ a.length.now _ _ c.content_length-l.ensures c.found.ensures q
 
 pub returns : goal.returns
 returns c = told_damaged _ _ _ (sym c.is_sound.ensures ∙ c.if-is_sound.false)

@@ -10,17 +10,17 @@ use Rattle.abi.proofs.walking.bisquecrow_walker.Goals as goal
 pub put_head-requires : goal.put_head-requires
 put_head-requires c = long_head _ _ (sym c.is_long.ensures ∙ c.if-is_long.true)
 
-pub returns-then-answer-eq-DONE : goal.returns-then-answer-eq-DONE
+pub returns-in-Ok : goal.returns-in-Ok
 unfolding walker_gives
-returns-then-answer-eq-DONE c =
+returns-in-Ok c =
     goes_sound _ _ _ _ _ _ _ _ _ _ _ _ _ _ _ _ (eq-eqb _ _ c.if-trail-eq-TRAIL.true) (sym c.is_long.ensures ∙ c.if-is_long.true)
-    (started_fine _ _ _ _ _ _ _ (rw c.unmade-h.ensures at c.start-walked.ensures (table_of c.args.table.now)) _ _ (sym c.started-answer.ensures ∙ c.if-answer-eq-DONE.true) c.put_head.ensures c.put_trail.ensures)
+    (started_fine _ _ _ _ _ _ _ (rw c.unmade-h.ensures at c.start-walked.ensures (table_of c.args.table.now)) _ _ _ c.in-Ok.is c.put_head.ensures c.put_trail.ensures)
 
-pub returns-then-is_long : goal.returns-then-is_long
+pub returns-in-Err : goal.returns-in-Err
 unfolding walker_gives
-returns-then-is_long c =
+returns-in-Err c =
     goes_sound _ _ _ _ _ _ _ _ _ _ _ _ _ _ _ _ (eq-eqb _ _ c.if-trail-eq-TRAIL.true) (sym c.is_long.ensures ∙ c.if-is_long.true)
-    (started_refused _ _ _ _ _ _ _ (rw c.unmade-h.ensures at c.start-walked.ensures (table_of c.args.table.now)) _ (λ q. c.if-answer-eq-DONE.false (c.started-answer.ensures ∙ q)) c.started-answer.ensures)
+    (started_refused _ _ _ _ _ _ _ (rw c.unmade-h.ensures at c.start-walked.ensures (table_of c.args.table.now)) _ _ c.in-Err.is c.refused.ensures)
 
 pub returns-then-trail-eq-TRAIL : goal.returns-then-trail-eq-TRAIL
 unfolding walker_gives
