@@ -1,6 +1,8 @@
 // What the benchmarks time: the library's calls, over and over, for a driver in another language to link.
 #![tactic(auto)]
 
+ghost use Rattle.std.specs.Prelude.{◌<◌};
+
 use leaves::refusals::Refusal;
 use line_reader::Answer;
 use maps::HeaderMap;
@@ -63,7 +65,9 @@ fn length_found<'a>(
     m: HeaderMap,
     block: &'a [u8],
     store: &'a [u8],
-) -> usize {
+) -> usize
+    ensures { result < 1024 }
+{
     match found {
         Ok(Some(i)) => lookups::value(m, block, store, i).len() % 1024,
         _ => 0,
