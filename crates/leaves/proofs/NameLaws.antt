@@ -46,6 +46,13 @@ apart [] (y ∷ ys) h = refl
 apart (x ∷ xs) [] h = refl
 apart (x ∷ xs) (y ∷ ys) h = and_false (eqb x y) _ (apart xs ys (λ e. h (ap suc e)))
 
+pub same_apart : (a b : List ℕ) → (length a ≡ length b → ⊥) → same_name a b ≡ false
+unfolding same_list
+same_apart [] [] h = absurd (h refl)
+same_apart [] (y ∷ ys) h = refl
+same_apart (x ∷ xs) [] h = refl
+same_apart (x ∷ xs) (y ∷ ys) h = and_false (eqb (lowered x) (lowered y)) _ (same_apart xs ys (λ e. h (ap suc e)))
+
 module _ (a b : List ℕ) (i : ℕ) where
   pub same_more : i < length a → i < length b → lowered (get_or a i 0) ≡ lowered (get_or b i 0)
       → same_name (drop i a) (drop i b) ≡ same_name (drop (i + 1) a) (drop (i + 1) b)

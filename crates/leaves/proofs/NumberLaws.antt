@@ -52,3 +52,14 @@ length_stop s i n h e = rw (drop-cons s i 0, e)
 pub length_end : (s : List ℕ) (i n : ℕ) → length s ≤ i → n ≤ 18446744073709551615 → length_from n (drop i s) ≡ n
 unfolding all decimal_from
 length_end s i n h e = rw (drop_of_length-le s h) (omega arith)
+
+-- one or more digits
+pub decimal_none : (s : List ℕ) → length s ≡ 0 → is_decimal s ≡ false
+unfolding is_decimal
+decimal_none [] h = refl
+decimal_none (x ∷ xs) h = absurd (omega arith)
+
+pub decimal_some : (s : List ℕ) → (length s ≡ 0 → ⊥) → is_decimal s ≡ all digit s
+unfolding is_decimal
+decimal_some [] h = absurd (h refl)
+decimal_some (x ∷ xs) h = refl
