@@ -66,6 +66,11 @@ module _ (o : Out) (z n t b s : List ℕ) (c : Bool) where
   pub gave_sound : (r : ℕ) (z' n' t' b' s' : List ℕ) → c ≡ true → Gave o r z' n' t' b' s' → Gave (when c then o else damaged z n t b s) r z' n' t' b' s'
   gave_sound r z' n' t' b' s' e h = rw (if_true o (damaged z n t b s) e) h
 
+  -- the same part by part, as the search takes it
+  pub gave_parts : (r : ℕ) (z' n' t' b' s' : List ℕ) → c ≡ true → r ≡ o.answer → z' ≡ o.numbers → n' ≡ o.head → t' ≡ o.table → b' ≡ o.block → s' ≡ o.store
+      → Gave (when c then o else damaged z n t b s) r z' n' t' b' s'
+  gave_parts r z' n' t' b' s' e p q u v x y = gave_sound r z' n' t' b' s' e (record { answer = p; numbers = q; head = u; table = v; block = x; store = y })
+
   pub gave_damaged : c ≡ false → Gave (when c then o else damaged z n t b s) 3 z n t b s
   gave_damaged e = rw (if_false o (damaged z n t b s) e) (record { answer = refl; numbers = refl; head = refl; table = refl; block = refl; store = refl })
 
