@@ -81,12 +81,19 @@ fn good_stored(from: u32, to: u32, mark: usize) -> bool
 }
 
 // Whether the place of two numbers is good. Most places are the block's: two comparisons of the numbers as they stand tell a good one.
+// Each is left by itself: where they are joined, or what follows is written once, the compiler makes a value of each, and judging a map takes half as long again.
 #[tactic(auto, using(crate::proofs::LentLaws::place_plain, crate::proofs::LentLaws::place_over, crate::proofs::LentLaws::place_turned))]
 fn good_place(from: u32, to: u32, count: usize, mark: usize) -> bool
     requires { count ≤ 65536 }
     ensures { result ≡ good_place count mark (place_of from to) }
 {
-    from <= to && (to as usize) <= count || good_stored(from, to, mark)
+    if from > to {
+        return good_stored(from, to, mark);
+    }
+    if (to as usize) <= count {
+        return true;
+    }
+    good_stored(from, to, mark)
 }
 
 fn good_field(t: &[u32], i: usize, count: usize, mark: usize) -> bool
