@@ -35,7 +35,8 @@ impl Reading {
     }
 }
 
-// A block that was read: what ended it, the octets that it took, whether it was to have a status, and whether quirks were let pass.
+// A block that was read: what ended it, the octets that it took, whether it was to have a status, and whether quirks were let pass. It is large: each is
+// made where it stays, and lent to what reads it.
 #[derive(Drop)]
 struct Block {
     header: Header,
@@ -46,34 +47,39 @@ struct Block {
 }
 
 impl Block {
+    // One of which nothing is read.
+    fn new() -> Block {
+        Block {
+            header: Header::new(),
+            end: Ok(Read::More),
+            taken: 0,
+            status: false,
+            quirks: false,
+        }
+    }
+
     // Opens a file and reads its header block in large pieces, until one ends it or nothing more comes.
-    fn load(named: &Named, reading: Reading) -> Result<Block, Failure> {
+    fn load(&mut self, named: &Named, reading: Reading) -> Outcome {
         let mut piece = [0u8; PIECE];
         let mut input = named.open()?;
         let n = input.read_first(&mut piece)?;
-        let mut block = Block::new(reading.awaits(&piece[..n]), reading.quirks);
-        let mut is_ended = block.feed(&piece[..n]);
+        self.begin(reading.awaits(&piece[..n]), reading.quirks);
+        let mut is_ended = self.feed(&piece[..n]);
         // Nothing says that an input ends, and a proved loop has to.
         for _ in 0..u64::MAX {
             if is_ended {
                 break;
             }
             let n = input.read(&mut piece)?;
-            is_ended = block.feed(&piece[..n]);
+            is_ended = self.feed(&piece[..n]);
         }
-        Ok(block)
+        Ok(())
     }
 
-    fn new(status: bool, quirks: bool) -> Block {
-        let mut header = Header::new();
-        header.begin(status, quirks);
-        Block {
-            header,
-            end: Ok(Read::More),
-            taken: 0,
-            status,
-            quirks,
-        }
+    fn begin(&mut self, status: bool, quirks: bool) {
+        self.header.begin(status, quirks);
+        self.status = status;
+        self.quirks = quirks;
     }
 
     // Reads on; whether that ended the block, as the end of input does, where the piece is empty.
@@ -170,6 +176,31 @@ impl Block {
         false
     }
 
+    // Writes the block in words.
+    fn show(&self, rt: &HostRuntime) -> Outcome {
+        let mut page = Page::new(rt, Stream::Output);
+        self.say(&mut page);
+        self.outcome().max(page.flush())
+    }
+
+    // Writes the block rebuilt.
+    fn write_rebuilt(&self, rt: &HostRuntime) -> Outcome {
+        let mut sheet = [0u8; 65536];
+        let rebuilt = self.header.rebuild(&mut sheet);
+        self.outcome().max(Stream::Output.write(rt, rebuilt))
+    }
+
+    // Reads a block that is to be resumed; what is amiss is said.
+    fn load_answer(&mut self, named: &Named) -> Outcome {
+        let answer = Reading {
+            first: FirstLine::IsStatus,
+            quirks: false,
+        };
+        self.load(named, answer)?;
+        self.say_amiss(named);
+        Ok(())
+    }
+
     // Says what is amiss with a block that is to be resumed: a cut-off one's last field may be the beginning of another.
     fn say_amiss(&self, named: &Named) {
         let amiss = match self.end {
@@ -191,35 +222,22 @@ fn is_idle(line: &[u8]) -> bool {
 
 // Shows a file's header block.
 pub fn header(named: &Named, reading: Reading) -> Outcome {
-    let block = Block::load(named, reading)?;
+    let mut block = Block::new();
+    block.load(named, reading)?;
     block.remark(named);
     named.headline()?;
-    let mut page = Page::new(named.rt, Stream::Output);
-    block.say(&mut page);
-    block.outcome().max(page.flush())
+    block.show(named.rt)
 }
 
 // Writes a file's header block rebuilt.
 pub fn tidy(named: &Named, reading: Reading) -> Outcome {
-    let block = Block::load(named, reading)?;
+    let mut block = Block::new();
+    block.load(named, reading)?;
     block.remark(named);
     if !block.can_be_rebuilt(named) {
         return Err(Failure::Bad);
     }
-    let mut sheet = [0u8; 65536];
-    let rebuilt = block.header.rebuild(&mut sheet);
-    block.outcome().max(Stream::Output.write(named.rt, rebuilt))
-}
-
-// Reads a block that is to be resumed; what is amiss is said.
-fn load_answer(named: &Named) -> Result<Block, Failure> {
-    let answer = Reading {
-        first: FirstLine::IsStatus,
-        quirks: false,
-    };
-    let block = Block::load(named, answer)?;
-    block.say_amiss(named);
-    Ok(block)
+    block.write_rebuilt(named.rt)
 }
 
 fn verdict(first: &Block, second: &Block) -> Verdict {
@@ -233,9 +251,12 @@ fn verdict(first: &Block, second: &Block) -> Verdict {
 // Says whether the body of the second of two HTTP answers may be appended to that of the first. The second is read whatever the first is, so that both
 // are told of.
 pub fn resume(first: &Named, second: &Named) -> Outcome {
-    let one = load_answer(first);
-    let two = load_answer(second);
-    let verdict = verdict(&one?, &two?);
+    let mut one = Block::new();
+    let mut two = Block::new();
+    let first_loaded = one.load_answer(first);
+    let second_loaded = two.load_answer(second);
+    first_loaded.and(second_loaded)?;
+    let verdict = verdict(&one, &two);
     let said = out::say(first.rt, Stream::Output, format_args!("{verdict}\n"));
     match verdict {
         Verdict::Append => said,

@@ -15,12 +15,14 @@ mod walkers;
 mod walks;
 
 use arguments::{Argument, Asked, Misuse, Verb};
+use arrayvec::ArrayString;
 use blocks::{FirstLine, Reading};
 use commands::Command;
 use inputs::Named;
 use out::Stream;
 use outcomes::{Failure, Outcome};
 use std::env::Env;
+use std::fmt::Write;
 use walks::Task;
 
 // Where the exit status is written: who runs the program reads it there, so it is no `ExitCode`.
@@ -30,9 +32,14 @@ fn help(rt: &HostRuntime, to: Stream, command: Option<Command>) -> Outcome {
     to.write(rt, commands::help(command).as_bytes())
 }
 
+// Longer than each line that says what is wrong.
+const LINE: usize = 128;
+
 // Says what is wrong, and the help of the command.
 fn misused(rt: &HostRuntime, command: Option<Command>, misuse: Misuse) -> Failure {
-    let _ = out::say(rt, Stream::Error, format_args!("warc: {misuse}\n\n"));
+    let mut line = ArrayString::<LINE>::new();
+    let _ = write!(line, "warc: {misuse}\n\n");
+    let _ = Stream::Error.write(rt, line.as_str().as_bytes());
     let _ = help(rt, Stream::Error, command);
     Failure::Unread
 }

@@ -71,6 +71,13 @@ impl<'a> Page<'a> {
         }
     }
 
+    // Goes on afresh where something else is written; what was not flushed is dropped.
+    pub fn turn_to(&mut self, to: Stream) {
+        self.to = to;
+        self.text.clear();
+        self.is_lost = false;
+    }
+
     // Puts words on the page; whether they could be written `flush` tells.
     pub fn say<D: fmt::Display + Drop>(&mut self, words: D) {
         let _ = self.write_fmt(words);
@@ -133,13 +140,6 @@ impl Escape {
         }
     }
 
-    fn sign(self) -> &'static str {
-        match self {
-            Escape::Json => "\\u00",
-            _ => "%",
-        }
-    }
-
     // Octets, mostly such as stand for themselves.
     fn write<W: fmt::Write>(self, f: &mut fmt::Formatter<W>, octets: &[u8]) -> fmt::Result {
         if octets.iter().all(|x| self.keeps(*x))
@@ -147,20 +147,42 @@ impl Escape {
         {
             return f.write_str(text);
         }
-        for x in octets {
-            self.write_octet(f, *x)?;
+        for part in octets.chunks(PART) {
+            self.write_part(f, part)?;
         }
         Ok(())
     }
 
-    fn write_octet<W: fmt::Write>(self, f: &mut fmt::Formatter<W>, x: u8) -> fmt::Result {
-        if self.keeps(x) {
-            return f.write_char(char::from(x));
+    // A few octets, which are put together first: a call for each would cost more than the octet.
+    fn write_part<W: fmt::Write>(self, f: &mut fmt::Formatter<W>, part: &[u8]) -> fmt::Result {
+        let mut shown = ArrayVec::<u8, SHOWN>::new();
+        for x in part {
+            self.show(&mut shown, *x)?;
         }
-        let sign = self.sign();
-        write!(f, "{sign}{x:02X}")
+        let text = std::str::from_utf8(shown.as_slice()).map_err(|_| fmt::Error)?;
+        f.write_str(text)
+    }
+
+    fn show(self, shown: &mut ArrayVec<u8, SHOWN>, x: u8) -> fmt::Result {
+        if self.keeps(x) {
+            return shown.try_push(x).map_err(|_| fmt::Error);
+        }
+        let high = DIGITS[usize::from(x / 16)];
+        let low = DIGITS[usize::from(x % 16)];
+        let escaped = match self {
+            Escape::Json => shown.try_extend_from_slice(&[b'\\', b'u', b'0', b'0', high, low]),
+            _ => shown.try_extend_from_slice(&[b'%', high, low]),
+        };
+        escaped.map_err(|_| fmt::Error)
     }
 }
+
+const DIGITS: &[u8; 16] = b"0123456789ABCDEF";
+
+// So many octets are shown at once where some do not stand for themselves, each by six at most.
+const PART: usize = 64;
+
+const SHOWN: usize = 384;
 
 // Octets as far as a terminal takes them for nothing else.
 #[derive(Clone, Copy)]

@@ -212,7 +212,7 @@ impl<'a> Walk<'a> {
     }
 
     // Says how a file ends.
-    fn say_ending(&self, page: &mut Page, ending: Result<Ending, Failure>) {
+    fn say_ending(&mut self, ending: Result<Ending, Failure>) {
         let good = self.good;
         let records = Records(good);
         let position = self.walker.position();
@@ -221,47 +221,50 @@ impl<'a> Walk<'a> {
             whole: self.walker.whole(),
         };
         match ending {
-            Ok(Ending::Whole) => page.say(format_args!("good: {records}, {position} octets\n")),
+            Ok(Ending::Whole) => {
+                self.page
+                    .say(format_args!("good: {records}, {position} octets\n"));
+            }
             Ok(Ending::Stopped(refusal)) => {
                 let stop = Stop(refusal);
-                page.say(format_args!(
+                self.page.say(format_args!(
                     "stopped at position {position} by number {stop}; {before}\n"
                 ));
             }
             Err(Failure::Unread) => {
-                page.say(format_args!("unreadable at position {position}; {before}\n"))
+                self.page.say(format_args!("unreadable at position {position}; {before}\n"));
             }
             _ => {}
         }
     }
 
     // Says what is amiss with the one record that was asked for.
-    fn say_failure(&self, page: &mut Page, ending: Result<Ending, Failure>) {
+    fn say_failure(&mut self, ending: Result<Ending, Failure>) {
         let position = self.walker.position();
         match ending {
-            Ok(Ending::Whole) => page.say(format_args!(
+            Ok(Ending::Whole) => self.page.say(format_args!(
                 "no record starts at position {position}, where the file ends or behind it\n"
             )),
             Ok(Ending::Stopped(refusal)) => {
                 let stop = Stop(refusal);
-                page.say(format_args!("stopped at position {position} by number {stop}\n"));
+                self.page.say(format_args!("stopped at position {position} by number {stop}\n"));
             }
             _ => {}
         }
     }
 
-    // Says how the walk ended.
-    fn tell(&self, ending: Result<Ending, Failure>) -> Outcome {
-        let mut page = Page::new(self.named.rt, self.task.target());
+    // Says how the walk ended, on the page of the records, which was flushed.
+    fn tell(&mut self, ending: Result<Ending, Failure>) -> Outcome {
+        self.page.turn_to(self.task.target());
         if self.task.is_of_one() {
-            self.say_failure(&mut page, ending);
+            self.say_failure(ending);
         } else if !matches!(ending, Err(Failure::Unwritten)) {
             if self.named.is_one_of_several {
-                page.say(format_args!("{}: ", Text(self.named.path)));
+                self.page.say(format_args!("{}: ", Text(self.named.path)));
             }
-            self.say_ending(&mut page, ending);
+            self.say_ending(ending);
         }
-        page.flush()
+        self.page.flush()
     }
 
     // Writes what was said of the records, and says how the file ends.
@@ -305,17 +308,10 @@ impl<'a> Walk<'a> {
     }
 }
 
-// Walks over a file from a position on, and says how it ends.
-pub fn walk_file(named: &Named, task: Task, position: u64) -> Outcome {
-    let mut input = named.open()?;
-    if position > 0 {
-        input.go_to(position);
-    }
-    if task == Task::List {
-        named.headline()?;
-    }
+// Walks over an input from a position on, and says how it ends. The walk is large, and made first: behind other work its memory would be cleared twice.
+fn walk_input(named: &Named, task: Task, position: u64, input: &mut Input) -> Outcome {
     let mut walk = Walk::new(named, task, position);
-    let ended = walk.run(&mut input);
+    let ended = walk.run(input);
     let last = Ending::from(walk.walker.end());
     let ending = ended.map(|ending| ending.unwrap_or(last));
     let outcome = walk.conclude(ending);
@@ -325,4 +321,16 @@ pub fn walk_file(named: &Named, task: Task, position: u64) -> Outcome {
         named.remark(hint);
     }
     outcome
+}
+
+// Walks over a file from a position on, and says how it ends.
+pub fn walk_file(named: &Named, task: Task, position: u64) -> Outcome {
+    let mut input = named.open()?;
+    if position > 0 {
+        input.go_to(position);
+    }
+    if task == Task::List {
+        named.headline()?;
+    }
+    walk_input(named, task, position, &mut input)
 }
