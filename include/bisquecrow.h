@@ -52,8 +52,8 @@ extern "C" {
 #define BISQUECROW_DEFAULT_LIMIT 32768
 #define BISQUECROW_LARGEST 65536
 
-/* What a call takes of the stack at most. Measured (bindings/c/stack.c): 50,471 by clean, equal, resume and the other tests, which take maps by value;
-   1,200 by those that read and walk, less by edits, lookups and writing. */
+/* What a call takes of the stack at most. Measured (bindings/c/stack.c): 56,440 by clean, equal, resume and the other tests, which take maps by value;
+   1,240 by those that read and walk, less by edits, lookups and writing. */
 #define BISQUECROW_STACK 65536
 
 /* In a table, offsets of the store begin at this number. */
