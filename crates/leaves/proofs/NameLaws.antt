@@ -66,3 +66,25 @@ module _ (a b : List ℕ) (i : ℕ) where
   pub same_end : length a ≤ i → length b ≤ i → same_name (drop i a) (drop i b) ≡ true
   unfolding same_list
   same_end h k = rw (drop_of_length-le a h, drop_of_length-le b k)
+
+-- a name against a list that is read from its front
+module _ (a : List ℕ) (n y : ℕ) (ys : List ℕ) where
+  pub name_short : length a ≤ n → same_name (drop n a) (y ∷ ys) ≡ false
+  unfolding same_list
+  name_short h = rw (drop_of_length-le a h)
+
+  pub name_more : n < length a → lowered (get_or a n 0) ≡ lowered y → same_name (drop n a) (y ∷ ys) ≡ same_name (drop (n + 1) a) ys
+  unfolding same_list
+  name_more h e = rw (add-one, drop-cons a n 0, eq-eqb _ _ e)
+
+  pub name_stop : n < length a → (lowered (get_or a n 0) ≡ lowered y → ⊥) → same_name (drop n a) (y ∷ ys) ≡ false
+  unfolding same_list
+  name_stop h e = rw (drop-cons a n 0, ne_eqb _ _ e)
+
+pub name_left : (a : List ℕ) (n : ℕ) → n < length a → same_name (drop n a) [] ≡ false
+unfolding same_list
+name_left a n h = rw (drop-cons a n 0)
+
+pub name_end : (a : List ℕ) (n : ℕ) → length a ≤ n → same_name (drop n a) [] ≡ true
+unfolding same_list
+name_end a n h = rw (drop_of_length-le a h)

@@ -11,7 +11,7 @@ use lib.Dec.{eqb}
 use lib.ListN.{length, get_or, take, drop, length-drop, drop_of_length-le}
 use lib.Seq.{drop-cons, drop-drop, drop_at, get_or-drop, take-suc, take-add, length-take-le}
 use Rattle.leaves.proofs.ChoiceLaws.{or_assoc, or_false, or_left, or_right}
-use Rattle.leaves.specs.Octets.{has, before, Passed}
+use Rattle.leaves.specs.Octets.{has, before, all, Passed}
 
 module _ (c : ℕ) where
   has_snoc : (l : List ℕ) (x : ℕ) → has c (l ++ (x ∷ [])) ≡ (has c l || eqb x c)
@@ -117,6 +117,19 @@ module _ {c : ℕ} {s : List ℕ} {from i : ℕ} (p : Passed c s from i) where
 
   pub pass_end : (k : ℕ) → before c (drop i s) ≡ k → i + k ≡ from + before c (drop from s)
   pass_end k e = omega (arith, p.is)
+
+module _ (p : ℕ → Bool) (s : List ℕ) (i : ℕ) where
+  pub all_more : i < length s → p (get_or s i 0) ≡ true → all p (drop i s) ≡ all p (drop (i + 1) s)
+  unfolding all
+  all_more h e = rw (add-one, drop-cons s i 0, e)
+
+  pub all_stop : i < length s → p (get_or s i 0) ≡ false → all p (drop i s) ≡ false
+  unfolding all
+  all_stop h e = rw (drop-cons s i 0, e)
+
+  pub all_end : length s ≤ i → all p (drop i s) ≡ true
+  unfolding all
+  all_end h = rw (drop_of_length-le s h)
 
 -- an octet that neither of two texts has
 pub has_append : (c : ℕ) (a b : List ℕ) → has c a ≡ false → has c b ≡ false → has c (a ++ b) ≡ false

@@ -2,9 +2,10 @@
 use mathlib.Core.Path.{◌≡◌, refl, sym, ap, ◌∙◌}
 use mathlib.Core.Bool.{Bool, true, false}
 use mathlib.Core.List.{List, [], ◌∷◌, ◌++◌, reverse}
-use Prim.Native.Nat.{ℕ, zero, suc, min, ◌-◌, ◌≤◌, ◌<◌}
+use Prim.Native.Nat.{ℕ, zero, suc, min, ◌+◌, ◌-◌, ◌≤◌, ◌<◌}
 use native.Mathlib.Omega.{arith}
-use lib.ListN.{length, get_or, take, drop}
+use native.Mathlib.Nat.{add-zero}
+use lib.ListN.{length, get_or, take, drop, drop_of_length-le}
 use lib.Seq.{drop-cons, take-suc, length-take-le}
 use Rattle.std.proofs.lemmas.List.{reverse-append, reverse-reverse, length-reverse}
 use Rattle.std.specs.List.{prefix_len, suffix_len}
@@ -20,6 +21,10 @@ leading_more s i h e = rw (drop-cons s i 0, e)
 pub leading_stop : (s : List ℕ) (i : ℕ) → i < length s → blank (get_or s i 0) ≡ false → leading (drop i s) ≡ 0
 unfolding leading
 leading_stop s i h e = rw (drop-cons s i 0, e)
+
+pub leading_end : (s : List ℕ) (i : ℕ) → length s ≤ i → leading s ≡ i + leading (drop i s) → i ≡ leading s
+unfolding leading
+leading_end s i h e = sym (e ∙ rw (drop_of_length-le s h) (add-zero i))
 
 -- a blank at the end does not count
 end_blank : (s : List ℕ) (x : ℕ) → blank x ≡ true → trim_end (s ++ (x ∷ [])) ≡ trim_end s
@@ -55,6 +60,12 @@ module _ (s : List ℕ) (e : ℕ) (some : 0 < e) (fits : e ≤ length s) where
       let n : length (take (e - 1) s) ≡ e - 1 = length-take-le (e - 1) s h in
       let t : trim_end (take e s) ≡ suc (length (take (e - 1) s)) = ap trim_end taken ∙ end_full (take (e - 1) s) (get_or s (e - 1) 0) b in
       omega arith
+
+pub end_none : (s : List ℕ) (e : ℕ) → e ≤ 0 → trim_end s ≡ trim_end (take e s) → e ≡ trim_end s
+unfolding trim_end
+end_none s e h q =
+    let z : e ≡ 0 = omega arith in
+    z ∙ sym (q ∙ ap (λ (n : ℕ). trim_end (take n s)) z)
 
 -- the search from the back passes the blanks there
 end_of_reversed : (s : List ℕ) → trim_end (reverse s) ≡ length s - prefix_len blank s

@@ -1,13 +1,13 @@
 -- What a turn makes of a table by value, and what a reading that stopped gives as the map and the loans of a call. Assumes nothing.
 use Rattle.leaves.specs.declared.refusals.Refusal.{Refusal}
 use Rattle.std.specs.Prelude.{Err, Ok, Result}
-use mathlib.Core.Path.{◌≡◌, sym, ap, subst, ◌∙◌}
+use mathlib.Core.Path.{◌≡◌, refl, sym, ap, subst, ◌∙◌}
 use mathlib.Core.Bool.{Bool, true, false}
 use mathlib.Core.List.{List, []}
-use Prim.Native.Nat.{ℕ, ◌+◌, ◌-◌, ◌<◌}
+use Prim.Native.Nat.{ℕ, ◌+◌, ◌-◌, ◌≤◌, ◌<◌}
 use native.Mathlib.Omega.{arith}
-use lib.ListN.{length, take, drop, get_or}
-use lib.Seq.{length-take-le}
+use lib.ListN.{length, take, drop, get_or, set}
+use lib.Seq.{length-take-le, set-get_or}
 use Rattle.maps.specs.Heads.{under, head_of}
 use Rattle.maps.specs.Good.{Ready}
 use Rattle.maps.specs.Maps.{Is}
@@ -16,9 +16,10 @@ use Rattle.maps.specs.declared.Field.{Field}
 use Rattle.maps.specs.declared.Head.{Head}
 use Rattle.maps.specs.declared.HeaderMap.{HeaderMap}
 use Rattle.folds.specs.declared.Change.{Change}
+use Rattle.folds.specs.declared.Change.TheVariants.{Nothing, Status as Headed, Put}
 use Rattle.folds.proofs.ListLaws.{laid}
 use Rattle.line_reader.specs.Standing.{rules_of, answering}
-use Rattle.line_reader.specs.Handling.{Puts, put_in, next_handled}
+use Rattle.line_reader.specs.Handling.{Puts, slot_of, put_in, next_handled}
 use Rattle.line_reader.specs.declared.Answer.{Answer}
 use Rattle.line_reader.specs.declared.Answer.TheVariants.{More, Blank, Input}
 use Rattle.line_reader.specs.declared.Handled.{Handled}
@@ -27,6 +28,38 @@ use Rattle.line_reader.proofs.LineSteps.{Seated, seated, Handles, handled_is, En
 use Rattle.reader.specs.Calls.{gives, fed_from, finished_from}
 use Rattle.reader.specs.Heads.{head_after}
 use Rattle.reader.specs.declared.Fed.{Fed}
+
+-- a field, and the slot that it goes to
+pub record Spot : Type 0 where
+  pub slot : ℕ
+  pub field : Field
+
+-- the field that a change puts; else the last one, where it is
+abbrev pub spot_of : Result Change Refusal → ℕ → Field → Spot
+spot_of (Ok Nothing) slot last = record { slot = slot; field = last }
+spot_of (Ok (Headed p)) slot last = record { slot = slot; field = last }
+spot_of (Ok (Put to x mark)) slot last = record { slot = to; field = x }
+spot_of (Err e) slot last = record { slot = slot; field = last }
+
+-- a field that a change puts, or the last field put again, is what the change makes of the table
+put_spot : (t : List Field) (c : Result Change Refusal) (i : ℕ) → set t (spot_of c i (get_or t i no_field)).slot (spot_of c i (get_or t i no_field)).field ≡ put_in t c
+put_spot t (Ok Nothing) i = set-get_or t i no_field
+put_spot t (Ok (Headed p)) i = set-get_or t i no_field
+put_spot t (Ok (Put slot x to)) i = refl
+put_spot t (Err e) i = set-get_or t i no_field
+
+spot_few : (c : Result Change Refusal) (i : ℕ) (x : Field) → slot_of c < 256 → i < 256 → (spot_of c i x).slot < 256
+spot_few (Ok Nothing) i x h k = k
+spot_few (Ok (Headed p)) i x h k = k
+spot_few (Ok (Put slot y to)) i x h k = h
+spot_few (Err e) i x h k = k
+
+module _ (t : List Field) (c : Result Change Refusal) {i n : ℕ} (place : i ≡ n - 1) (few : n ≤ 256) (w : Puts c) {k : Spot} (e : k ≡ spot_of c i (get_or t i no_field)) where
+  pub spot_in : k.slot < 256
+  spot_in = rw e (spot_few c i (get_or t i no_field) w.slot (omega (arith, place, few)))
+
+  pub spot_put : set t k.slot k.field ≡ put_in t c
+  spot_put = rw e (put_spot t c i)
 
 -- a turn of the loop, by the change that it made
 module _ {p b₀ s₀ b s : List ℕ} {m : HeaderMap} {at : ℕ} {a : Result Answer Refusal} {going : Bool} (t : List Field) (h : Head) (inv : Feeding p m b₀ s₀ 0 (under t h) b s at a going)
