@@ -14,7 +14,7 @@ use Rattle.leaves.specs.Trim.{trim_end, end_after}
 use Rattle.leaves.specs.Octets.{same_list}
 use Rattle.leaves.specs.Paste.{pasted}
 use Rattle.leaves.proofs.PasteLaws.{Copying, copy_start, copy_step, copy_end}
-use Rattle.leaves.proofs.ChoiceLaws.{and_false}
+use Rattle.leaves.proofs.NameLaws.{apart}
 use Rattle.folds.specs.Rule.{continues}
 use Rattle.leaves.specs.Octets.{all}
 
@@ -55,11 +55,7 @@ pub two_false : (l : List ℕ) (a b : ℕ) → length l ≡ 2 → (get_or l 0 0 
 two_false l a b h e = two_same l a b h ∙ ap (λ (t : Bool). t && eqb (get_or l 1 0) b) (ne_eqb (get_or l 0 0) a e)
 
 pub not_two : (l : List ℕ) (a b : ℕ) → (length l ≡ 2 → ⊥) → same_list l (a ∷ b ∷ []) ≡ false
-unfolding same_list
-not_two [] a b h = refl
-not_two (x ∷ []) a b h = and_false (eqb x a) false refl
-not_two (x ∷ y ∷ []) a b h = absurd (h refl)
-not_two (x ∷ y ∷ z ∷ zs) a b h = ap (λ (t : Bool). eqb x a && t) (and_false (eqb y b) false refl) ∙ and_false (eqb x a) false refl
+not_two l a b h = apart l (a ∷ b ∷ []) h
 
 -- what `==` says of two texts
 pub pointwise_same : (a b : List ℕ) → pointwise eqb a b ≡ same_list a b
